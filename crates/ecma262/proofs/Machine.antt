@@ -1,0 +1,50 @@
+-- The machine's signed integers, for proofs by `omega`: a result fits, and what is read back from its bits is the number. Assumes nothing.
+use mathlib.Core.Path.{_≡_, refl, sym, ap, subst}
+use mathlib.Core.Bool.{Bool, true, false, not}
+use Prim.Native.Nat.{ℕ, suc, _+_, _^_, _≤_, _<_}
+use native.Mathlib.Omega.{arith}
+use lib.Dec.{T}
+use lib.IntN.{ℤ, pos, negsuc, natAbs}
+use lib.Signed.{mag, leZ, ltZ, _≤ℤ_, _<ℤ_, leZ-yes, ltZ-yes, ltZ-no}
+use mir.Syntax.{Width, w32, w64}
+use mir.Val.{SFits, hbits, toZ, ofZ}
+use mir.Facts.{toZ-ofZ}
+use Rattle.ecma262.proofs.Int.{plus, minus}
+
+mag-below : (z : ℤ) (k : ℕ) → (plus z ≤ minus z + k) × (minus z ≤ plus z + k) → mag z ≤ k
+mag-below (pos n) k h = omega arith
+mag-below (negsuc n) k h = omega arith
+
+pub fits64 : (z : ℤ) → (plus z ≤ minus z + 9223372036854775807) × (minus z ≤ plus z + 9223372036854775807) → SFits w64 z
+fits64 z h = record { sfits = omega (arith, mag-below z 9223372036854775807 h) }
+
+pub fits32 : (z : ℤ) → (plus z ≤ minus z + 2147483647) × (minus z ≤ plus z + 2147483647) → SFits w32 z
+fits32 z h = record { sfits = omega (arith, mag-below z 2147483647 h) }
+
+-- a test, as a branch leaves it
+pub true-T : (b : Bool) → b ≡ true → T b
+true-T b e = subst T (sym e) tt
+
+pub false-T : (b : Bool) → b ≡ false → T (not b)
+false-T b e = subst (λ x. T (not x)) (sym e) tt
+
+nle : (a b : ℤ) → T (not (leZ a b)) → T (ltZ b a)
+nle (pos a) (pos b) t = nleb→lt′ a b t
+  where
+    nleb→lt′ : (a b : ℕ) → T (not (lib.Dec.leb a b)) → T (lib.Dec.ltb b a)
+    nleb→lt′ a b t = lib.Dec.lt→ltb b a (lib.Dec.nleb→lt a b t)
+nle (pos a) (negsuc b) t = tt
+nle (negsuc a) (pos b) t = absurd t
+nle (negsuc a) (negsuc b) t = lib.Dec.lt→ltb a b (lib.Dec.nleb→lt b a t)
+
+pub le-true : {a b : ℤ} → leZ a b ≡ true → a ≤ℤ b
+le-true {a} {b} e = leZ-yes (true-T (leZ a b) e)
+
+pub le-false : {a b : ℤ} → leZ a b ≡ false → b <ℤ a
+le-false {a} {b} e = ltZ-yes (nle a b (false-T (leZ a b) e))
+
+pub lt-true : {a b : ℤ} → ltZ a b ≡ true → a <ℤ b
+lt-true {a} {b} e = ltZ-yes (true-T (ltZ a b) e)
+
+pub lt-false : {a b : ℤ} → ltZ a b ≡ false → b ≤ℤ a
+lt-false {a} {b} e = ltZ-no (false-T (ltZ a b) e)
