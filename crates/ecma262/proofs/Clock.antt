@@ -4,8 +4,8 @@ use Prim.Native.Nat.{ℕ, suc, _+_, _*_, _/_, _%_, _≤_, _<_}
 use native.Mathlib.Omega.{arith}
 use lib.IntN.{ℤ, pos, negsuc, _+ℤ_, _*ℤ_}
 use Rattle.ecma262.specs.Whole.{floorDiv, floorMod}
-use Rattle.ecma262.specs.Date.{Day, TimeWithinDay, HourFromTime, MinFromTime, SecFromTime, msFromTime, MakeTime, MakeDate}
-use Rattle.ecma262.proofs.Int.{plus, minus, ints, Term, at, _+ᵗ_, _ᵗ*_, _/ᵗ_, Facts, read}
+use Rattle.ecma262.specs.Date.{Day, TimeWithinDay, WeekDay, HourFromTime, MinFromTime, SecFromTime, msFromTime, MakeTime, MakeDate}
+use Rattle.ecma262.proofs.Int.{plus, minus, ints, mod-small, Term, at, _+ᵗ_, _ᵗ*_, _/ᵗ_, Facts, read}
 
 -- each is a digit of the time within the day
 pub hour-digit : (t : ℤ) → HourFromTime t ≡ TimeWithinDay t / 3600000
@@ -41,3 +41,7 @@ make-date-of t = omega (ints, read (at t /ᵗ 86400000 ᵗ* 86400000 +ᵗ at (po
 -- MakeDate(Day(t), MakeTime(HourFromTime(t), MinFromTime(t), SecFromTime(t), msFromTime(t))) = t
 pub make-date-clock : (t : ℤ) → MakeDate (Day t) (MakeTime (pos (HourFromTime t)) (pos (MinFromTime t)) (pos (SecFromTime t)) (pos (msFromTime t))) ≡ t
 make-date-clock t = ap (MakeDate (Day t)) (make-time (HourFromTime t) (MinFromTime t) (SecFromTime t) (msFromTime t) ∙ ap pos (clock t)) ∙ make-date-of t
+
+-- ---- bounds
+pub week-day-small : (t : ℤ) → WeekDay t < 7
+week-day-small t = mod-small _ 6

@@ -3,16 +3,13 @@ use mathlib.Core.Path.{_≡_, refl, sym, ap, ap₂, _∙_, subst}
 use mathlib.Core.Bool.{Bool, true, false, cond}
 use Prim.Native.Nat.{ℕ, zero, suc, _+_, _*_, _-_, _/_, _%_, _≤_, _<_}
 use native.Mathlib.Omega.{arith}
-use lib.Dec.{ltb, eqb, eqb→eq}
-use mathlib.Core.List.{List, [], _∷_}
-use lib.ListN.{getD}
+use lib.Dec.{ltb}
 use lib.IntN.{ℤ, pos, natAbs, negsuc, _+ℤ_, _-ℤ_, _*ℤ_, +ℤ-idr}
 use lib.Signed.{_≤ℤ_, _<ℤ_}
 use Rattle.ecma262.specs.Whole.{floorDiv, floorMod}
 use Rattle.ecma262.specs.Date.{Day, TimeWithinDay, DaysInYear, DayFromYear, TimeFromYear, YearFromTime, DayWithinYear, leapOf, InLeapYear, monthOf, MonthFromTime, dateOf, DateFromTime, HourFromTime, MinFromTime, SecFromTime, msFromTime, MakeTime, IsMakeDay, daysBefore, firstOfMonth, MakeDay, MakeDate, DaysInMonth, Fields, Valid, timeOf, fieldsOf}
 use Rattle.ecma262.proofs.Int.{plus, minus, ints, mod-small, natural, Term, at, _+ᵗ_, _-ᵗ_, _*ᵗ_, _ᵗ*_, _/ᵗ_, read}
 use Rattle.ecma262.proofs.Year.{year-start, year-end, year-of}
-use Rattle.ecma262.proofs.Table.{all, all-at}
 use Rattle.ecma262.proofs.Leap.{next-day, days-of-leap}
 use Rattle.ecma262.proofs.Months.{month-small, month-from, month-upto, month-date, monthDays, month-nonempty, month-within, month-shifted, month-of}
 use Rattle.ecma262.proofs.Clock.{clock, make-time, make-date-parts, make-date-of, make-date-clock, hour-digit, min-digit, sec-digit, ms-digit}
@@ -56,7 +53,7 @@ by-year-day t y n e h =
     let year : YearFromTime t ≡ y = year-of t y s u in
     (year, subst (λ z. Day t -ℤ DayFromYear z ≡ pos n) (sym year) (omega (ints, read (at (Day t) -ᵗ at (DayFromYear y)), read (at (DayFromYear y) +ᵗ at (pos n)))))
 
--- ---- (c) the month and the date of a time
+-- ---- the month and the date of a time
 leap-small : (y : ℤ) → leapOf y ≤ 1
 leap-small y = days-of-leap y .1
 
@@ -120,7 +117,7 @@ pub round-trip : (t : ℤ)
     → MakeDate (MakeDay (YearFromTime t) (pos (MonthFromTime t)) (DateFromTime t)) (MakeTime (pos (HourFromTime t)) (pos (MinFromTime t)) (pos (SecFromTime t)) (pos (msFromTime t))) ≡ t
 round-trip t = ap (λ d. MakeDate d (MakeTime (pos (HourFromTime t)) (pos (MinFromTime t)) (pos (SecFromTime t)) (pos (msFromTime t)))) (make-day-of t) ∙ make-date-clock t
 
--- ---- (d) a day by its year, its month and its number there, from 0
+-- ---- a day by its year, its month and its number there, from 0
 pub by-month-day : (t y : ℤ) (m i : ℕ) → m < 12 → i < DaysInMonth y m → Day t ≡ firstOfMonth y m +ℤ pos i
     → (YearFromTime t ≡ y) × (MonthFromTime t ≡ m) × (DateFromTime t ≡ pos (i + 1))
 by-month-day t y m i h k e = (year, month, date)
@@ -266,7 +263,7 @@ pub make-day-unique : (y m dt d : ℤ) → IsMakeDay y m dt d → d ≡ MakeDay 
 unfolding MakeDay
 make-day-unique y m dt d r = r .answer ∙ ap (λ f. f +ℤ dt -ℤ pos 1) (day-of-first (r .t) (r .date) ∙ ap₂ firstOfMonth (r .year) (r .month))
 
--- ---- (e) the Rust's make_day: the year after, less 365, for a month past February
+-- ---- the original's make_day: the days of the next year less 365 for a month past February, and the common year's row of months for all
 abbrev pub rest : ℕ → ℕ
 rest mn = cond (ltb 1 mn) 1 0
 
@@ -288,23 +285,13 @@ rust-make-day ym mn h = go (ltb 1 mn) (month-shifted (leapOf ym) mn (leap-small 
         ap (λ d. d +ℤ pos (daysBefore 0 mn)) (+ℤ-idr (DayFromYear (ym +ℤ pos 0)) ∙ ap DayFromYear (+ℤ-idr ym))
         ∙ omega (ints, read (at (DayFromYear ym) +ᵗ at (pos (daysBefore 0 mn))), read (firstTerm ym mn))
 
--- the same with the Rust's own table, and its last two steps: the product by msPerDay, and Day of that, plus dt, less 1
-abbrev pub rustDays : ℕ → ℕ
-rustDays mn = getD (0 ∷ 31 ∷ 59 ∷ 90 ∷ 120 ∷ 151 ∷ 181 ∷ 212 ∷ 243 ∷ 273 ∷ 304 ∷ 334 ∷ []) mn 0
-
-rustDays-is : (mn : ℕ) → mn < 12 → rustDays mn ≡ daysBefore 0 mn
-unfolding daysBefore
-rustDays-is mn h = eqb→eq _ _ (all-at (λ m. eqb (rustDays m) (daysBefore 0 m)) 12 tt mn h)
-
 pub day-of-days : (d : ℤ) → Day (d *ℤ pos 86400000) ≡ d
 day-of-days d = omega (ints, read (at d ᵗ* 86400000 /ᵗ 86400000))
 
+-- with its last two steps: the product by msPerDay, and Day of that, plus dt, less 1
 pub rust-make-day-whole : (y m dt : ℤ)
-    → Day ((DayFromYear (y +ℤ floorDiv m 12 +ℤ pos (rest (floorMod m 12))) -ℤ pos (365 * rest (floorMod m 12)) +ℤ pos (rustDays (floorMod m 12))) *ℤ pos 86400000) +ℤ dt -ℤ pos 1
+    → Day ((DayFromYear (y +ℤ floorDiv m 12 +ℤ pos (rest (floorMod m 12))) -ℤ pos (365 * rest (floorMod m 12)) +ℤ pos (daysBefore 0 (floorMod m 12))) *ℤ pos 86400000) +ℤ dt -ℤ pos 1
     ≡ MakeDay y m dt
 unfolding MakeDay
 rust-make-day-whole y m dt =
-    ap (λ d. d +ℤ dt -ℤ pos 1)
-    (day-of-days _
-    ∙ ap (λ n. DayFromYear (y +ℤ floorDiv m 12 +ℤ pos (rest (floorMod m 12))) -ℤ pos (365 * rest (floorMod m 12)) +ℤ pos n) (rustDays-is (floorMod m 12) (mod-small m 11))
-    ∙ rust-make-day (y +ℤ floorDiv m 12) (floorMod m 12) (mod-small m 11))
+    ap (λ d. d +ℤ dt -ℤ pos 1) (day-of-days _ ∙ rust-make-day (y +ℤ floorDiv m 12) (floorMod m 12) (mod-small m 11))

@@ -1,6 +1,8 @@
--- The laws of the year. Assumes nothing.
+-- The computed year is the one that the standard's search finds, and the only one; the mean-year estimate is that year or the one after it.
+-- The route: 400 * DayFromYear(y) lies within 1,095 of 146097 y - 287811596 (`day-bounds`), and all else is linear. Assumes nothing.
 use mathlib.Core.Path.{_≡_, refl, sym, ap, _∙_, subst}
 use mathlib.Core.Bool.{Bool, true, false, not, cond}
+use mathlib.Core.Logic.{_⊎_, inl, inr}
 use Prim.Native.Nat.{ℕ, zero, suc, _+_, _*_, _-_, _/_, _%_, _≤_, _<_}
 use native.Mathlib.Omega.{arith}
 use lib.IntN.{ℤ, pos, negsuc, _+ℤ_, _-ℤ_, _*ℤ_, -ℤ-+ℤ-cancel}
@@ -56,7 +58,7 @@ between t y h k = record { started = h; largest = top }
         omega (ints, read (86400000 *ᵗ at (DayFromYear (y +ℤ pos 1))), read (86400000 *ᵗ at (DayFromYear z))))
         (λ c. ltZ-no c)
 
--- (a) the function meets the standard's condition, and nothing else does
+-- ---- the function meets the standard's condition, and nothing else does
 pub year-is : (t : ℤ) → IsYearFromTime t (YearFromTime t)
 unfolding YearFromTime
 year-is t =
@@ -84,7 +86,7 @@ year-end t =
 pub year-of : (t y : ℤ) → TimeFromYear y ≤ℤ t → t <ℤ TimeFromYear (y +ℤ pos 1) → YearFromTime t ≡ y
 year-of t y h k = year-unique t (YearFromTime t) y (year-is t) (between t y h k)
 
--- (b) the Rust's steps, for every whole t: the estimate, and one year less where it starts after t
+-- ---- the original's steps, for every whole t: the estimate, and one year less where it starts after t
 pub rust-year : (t y : ℤ) → y ≡ floorDiv (t +ℤ pos 15_778_476_000) 31_556_952_000 +ℤ pos 1970
     → (TimeFromYear y ≤ℤ t → YearFromTime t ≡ y) × (t <ℤ TimeFromYear y → YearFromTime t ≡ y -ℤ pos 1)
 rust-year t y e = (
@@ -95,6 +97,13 @@ rust-year t y e = (
   where
     low : TimeFromYear (y -ℤ pos 1) <ℤ t → TimeFromYear (y -ℤ pos 1) ≤ℤ t
     low h = omega ints
+
+-- so the estimate is the year, or one late
+pub estimate-year-or-next : (t : ℤ) → (yearEstimate t ≡ YearFromTime t) ⊎ (yearEstimate t ≡ YearFromTime t +ℤ pos 1)
+estimate-year-or-next t =
+    by-test (ltZ t (TimeFromYear (yearEstimate t)))
+    (λ c. inr (sym (ap (λ y. y +ℤ pos 1) (rust-year t (yearEstimate t) refl .1 (ltZ-yes c)) ∙ -ℤ-+ℤ-cancel (yearEstimate t) (pos 1))))
+    (λ c. inl (sym (rust-year t (yearEstimate t) refl .0 (ltZ-no c))))
 
 -- ---- the cycle of 400 years, 146097 days: the days of a cycle before its year m
 unfoldable pub yearStart : ℕ → ℕ

@@ -1,19 +1,28 @@
--- ECMA-262, "Date Objects", the abstract operations on time values and their parts, over whole numbers (ℤ). A time t is any whole
--- number of milliseconds since 1970-01-01 UTC. The standard's words stand above each definition. Two operations of the standard search
--- for a number, YearFromTime and MakeDay: each has the standard's condition as a record, and a function that computes the number.
--- That the function meets the condition, and that nothing else does, are laws (proofs/Year.antt, proofs/Fields.antt).
--- Assumes nothing.
+-- ECMA-262, "Date Objects", the abstract operations on time values and their parts, over whole numbers (ℤ), in the standard's order. A time t
+-- is any whole number of milliseconds since 1970-01-01 UTC. The standard's words stand above each definition, after the clause's anchor
+-- (sec-day is https://tc39.es/ecma262/#sec-day). Two operations of the standard search for a number, YearFromTime and MakeDay: each has the standard's condition as a record, and a function
+-- that computes the number. That the function meets the condition, and that nothing else does, are laws (proofs/Year.antt,
+-- proofs/Fields.antt). Definitions only. Assumes nothing.
 use mathlib.Core.Path.{_≡_}
 use mathlib.Core.Bool.{Bool, true, false, cond}
 use mathlib.Core.List.{List, [], _∷_}
+use mathlib.Core.Option.{Option, some, none}
 use Prim.Native.Nat.{ℕ, _+_, _-_, _<_, _≤_}
-use lib.Dec.{eqb}
+use lib.Dec.{eqb, ltb, leb}
 use lib.ListN.{getD}
 use lib.IntN.{ℤ, pos, negsuc, natAbs, _+ℤ_, _-ℤ_, _*ℤ_}
 use lib.Signed.{ltZ, leZ, _≤ℤ_}
 use Rattle.ecma262.specs.Whole.{floorDiv, floorMod}
 
--- HoursPerDay = 24, MinutesPerHour = 60, SecondsPerMinute = 60, msPerSecond = 1000,
+-- sec-time-values-and-time-range, Time Values and Time Range: "exactly -100,000,000 days to 100,000,000 days relative to midnight at the beginning of
+-- 1 January 1970 UTC", 8.64 × 10^15 milliseconds either way
+abbrev pub timeRange : ℕ
+timeRange = 8_640_000_000_000_000
+
+abbrev pub InRange : ℤ → Type 0
+InRange t = natAbs t ≤ timeRange
+
+-- sec-time-related-constants, Time-related Constants: HoursPerDay = 24, MinutesPerHour = 60, SecondsPerMinute = 60, msPerSecond = 1000,
 -- msPerMinute = msPerSecond × SecondsPerMinute, msPerHour = msPerMinute × MinutesPerHour, msPerDay = msPerHour × HoursPerDay
 abbrev pub msPerSecond : ℕ
 msPerSecond = 1000
@@ -27,33 +36,33 @@ msPerHour = 3_600_000
 abbrev pub msPerDay : ℕ
 msPerDay = 86_400_000
 
--- Day(t): floor(t / msPerDay)
+-- sec-day, Day(t): floor(t / msPerDay)
 abbrev pub Day : ℤ → ℤ
 Day t = floorDiv t msPerDay
 
--- TimeWithinDay(t): t modulo msPerDay
+-- sec-timewithinday, TimeWithinDay(t): t modulo msPerDay
 abbrev pub TimeWithinDay : ℤ → ℕ
 TimeWithinDay t = floorMod t msPerDay
 
--- DaysInYear(y): if (y modulo 400) = 0, 366; if (y modulo 100) = 0, 365; if (y modulo 4) = 0, 366; else 365
+-- sec-daysinyear, DaysInYear(y): if (y modulo 400) = 0, 366; if (y modulo 100) = 0, 365; if (y modulo 4) = 0, 366; else 365
 unfoldable pub DaysInYear : ℤ → ℕ
 DaysInYear y =
     cond (eqb (floorMod y 400) 0) 366
     (cond (eqb (floorMod y 100) 0) 365
     (cond (eqb (floorMod y 4) 0) 366 365))
 
--- DayFromYear(y): numYears1 is y - 1970, numYears4 is floor((y - 1969) / 4), numYears100 is floor((y - 1901) / 100),
+-- sec-dayfromyear, DayFromYear(y): numYears1 is y - 1970, numYears4 is floor((y - 1969) / 4), numYears100 is floor((y - 1901) / 100),
 -- numYears400 is floor((y - 1601) / 400); 365 × numYears1 + numYears4 - numYears100 + numYears400
 unfoldable pub DayFromYear : ℤ → ℤ
 DayFromYear y =
     pos 365 *ℤ (y -ℤ pos 1970) +ℤ floorDiv (y -ℤ pos 1969) 4 -ℤ floorDiv (y -ℤ pos 1901) 100
     +ℤ floorDiv (y -ℤ pos 1601) 400
 
--- TimeFromYear(y): msPerDay × DayFromYear(y)
+-- sec-timefromyear, TimeFromYear(y): msPerDay × DayFromYear(y)
 abbrev pub TimeFromYear : ℤ → ℤ
 TimeFromYear y = pos msPerDay *ℤ DayFromYear y
 
--- YearFromTime(t): the largest y (closest to +∞) such that TimeFromYear(y) ≤ t
+-- sec-yearfromtime, YearFromTime(t): the largest y (closest to +∞) such that TimeFromYear(y) ≤ t
 pub record IsYearFromTime (t y : ℤ) : Type 0 where
   pub started : TimeFromYear y ≤ℤ t
   pub largest : (z : ℤ) → TimeFromYear z ≤ℤ t → z ≤ℤ y
@@ -65,7 +74,7 @@ yearEstimate t = floorDiv (t +ℤ pos 15_778_476_000) 31_556_952_000 +ℤ pos 19
 unfoldable pub YearFromTime : ℤ → ℤ
 YearFromTime t = cond (ltZ t (TimeFromYear (yearEstimate t))) (yearEstimate t -ℤ pos 1) (yearEstimate t)
 
--- DayWithinYear(t): Day(t) - DayFromYear(YearFromTime(t))
+-- sec-daywithinyear, DayWithinYear(t): Day(t) - DayFromYear(YearFromTime(t))
 abbrev pub DayWithinYear : ℤ → ℤ
 DayWithinYear t = Day t -ℤ DayFromYear (YearFromTime t)
 
@@ -73,7 +82,7 @@ DayWithinYear t = Day t -ℤ DayFromYear (YearFromTime t)
 abbrev pub leapOf : ℤ → ℕ
 leapOf y = cond (eqb (DaysInYear y) 366) 1 0
 
--- InLeapYear(t): if DaysInYear(YearFromTime(t)) is 366, 1; else 0
+-- sec-inleapyear, InLeapYear(t): if DaysInYear(YearFromTime(t)) is 366, 1; else 0
 abbrev pub InLeapYear : ℤ → ℕ
 InLeapYear t = leapOf (YearFromTime t)
 
@@ -93,7 +102,7 @@ monthOf leap d =
     (cond (ltZ d (pos (304 + leap))) 9
     (cond (ltZ d (pos (334 + leap))) 10 11))))))))))
 
--- MonthFromTime(t): 0 is January
+-- sec-monthfromtime, MonthFromTime(t): 0 is January
 abbrev pub MonthFromTime : ℤ → ℕ
 MonthFromTime t = monthOf (InLeapYear t) (DayWithinYear t)
 
@@ -113,15 +122,15 @@ dateOf leap d month =
     (cond (eqb month 9) (d -ℤ pos 272 -ℤ pos leap)
     (cond (eqb month 10) (d -ℤ pos 303 -ℤ pos leap) (d -ℤ pos 333 -ℤ pos leap)))))))))))
 
--- DateFromTime(t): the day of the month, from 1
+-- sec-datefromtime, DateFromTime(t): the day of the month, from 1
 abbrev pub DateFromTime : ℤ → ℤ
 DateFromTime t = dateOf (InLeapYear t) (DayWithinYear t) (MonthFromTime t)
 
--- WeekDay(t): (Day(t) + 4) modulo 7; 0 is Sunday
+-- sec-weekday, WeekDay(t): (Day(t) + 4) modulo 7; 0 is Sunday
 abbrev pub WeekDay : ℤ → ℕ
 WeekDay t = floorMod (Day t +ℤ pos 4) 7
 
--- HourFromTime(t): floor(t / msPerHour) modulo HoursPerDay, and so on; msFromTime(t): t modulo msPerSecond
+-- sec-hourfromtime, HourFromTime(t): floor(t / msPerHour) modulo HoursPerDay, and so on; msFromTime(t): t modulo msPerSecond
 abbrev pub HourFromTime : ℤ → ℕ
 HourFromTime t = floorMod (floorDiv t msPerHour) 24
 
@@ -134,11 +143,11 @@ SecFromTime t = floorMod (floorDiv t msPerSecond) 60
 abbrev pub msFromTime : ℤ → ℕ
 msFromTime t = floorMod t msPerSecond
 
--- MakeTime(hour, min, sec, ms) of whole numbers: ((h × msPerHour + m × msPerMinute) + s × msPerSecond) + milli
+-- sec-maketime, MakeTime(hour, min, sec, ms) of whole numbers: ((h × msPerHour + m × msPerMinute) + s × msPerSecond) + milli
 abbrev pub MakeTime : ℤ → ℤ → ℤ → ℤ → ℤ
 MakeTime h m s milli = h *ℤ pos msPerHour +ℤ m *ℤ pos msPerMinute +ℤ s *ℤ pos msPerSecond +ℤ milli
 
--- MakeDay(year, month, date) of whole numbers: let ym be y + floor(m / 12) and mn be m modulo 12; find a time t such that
+-- sec-makeday, MakeDay(year, month, date) of whole numbers: let ym be y + floor(m / 12) and mn be m modulo 12; find a time t such that
 -- YearFromTime(t) is ym, MonthFromTime(t) is mn, and DateFromTime(t) is 1; Day(t) + dt - 1
 pub record IsMakeDay (y m dt day : ℤ) : Type 0 where
   pub t : ℤ
@@ -159,9 +168,18 @@ firstOfMonth ym mn = DayFromYear ym +ℤ pos (daysBefore (leapOf ym) mn)
 unfoldable pub MakeDay : ℤ → ℤ → ℤ → ℤ
 MakeDay y m dt = firstOfMonth (y +ℤ floorDiv m 12) (floorMod m 12) +ℤ dt -ℤ pos 1
 
--- MakeDate(day, time): day × msPerDay + time
+-- sec-makedate, MakeDate(day, time): day × msPerDay + time
 abbrev pub MakeDate : ℤ → ℤ → ℤ
 MakeDate day time = day *ℤ pos msPerDay +ℤ time
+
+-- sec-makefullyear, MakeFullYear(year) of a whole number: if truncated is in the inclusive interval from 0 to 99, 1900 + truncated; else truncated
+abbrev pub MakeFullYear : ℤ → ℤ
+MakeFullYear (pos y) = cond (ltb y 100) (pos (1900 + y)) (pos y)
+MakeFullYear (negsuc y) = negsuc y
+
+-- sec-timeclip, TimeClip(time) of a whole number: if abs(time) > 8.64 × 10^15, NaN, here no value; else time
+abbrev pub TimeClip : ℤ → Option ℤ
+TimeClip t = cond (leb (natAbs t) timeRange) (some t) none
 
 -- The days of a month.
 abbrev pub DaysInMonth : ℤ → ℕ → ℕ
