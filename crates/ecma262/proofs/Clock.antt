@@ -44,4 +44,4 @@ make-date-clock t = ap (MakeDate (Day t)) (make-time (HourFromTime t) (MinFromTi
 
 -- ---- bounds
 pub week-day-small : (t : ℤ) → WeekDay t < 7
-week-day-small t = mod-small _ 6
+week-day-small t = mod-small (Day t +ℤ pos 4) 6
