@@ -1,0 +1,16 @@
+pub mod Ops
+pub mod Nearest
+pub mod Quotient
+pub mod Whole
+pub mod Order
+pub mod Casts
+pub mod Modulo
+pub mod Literal
+pub mod Bounds
+pub mod Finite
+pub mod Rounding
+pub mod Fractions
+mod Patterns
+mod Clearing
+mod Digits
+mod Controls
