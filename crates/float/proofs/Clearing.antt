@@ -119,7 +119,7 @@ cut-lead t k h = cut-high 1 t k h
 
 -- ---- the three ranges of the exponent's field
 
-split : (a b : ℕ) → (a < b) ⊎ (b ≤ a)
+pub split : (a b : ℕ) → (a < b) ⊎ (b ≤ a)
 split a b = go (ltb a b) (ltb→lt a b) (nltb→le a b)
   where
     go : (p : Bool) → (T p → a < b) → (T (not p) → b ≤ a) → (a < b) ⊎ (b ≤ a)
@@ -137,7 +137,7 @@ module _ (y k : ℕ) (at : k + y ≡ 1074) (some : k ≤ 52) where
   unit-is : 2 ^ 1074 ≡ 2 ^ k * 2 ^ y
   unit-is = ap (λ (n : ℕ). 2 ^ n) (sym at) ∙ pow-add 2 k y
 
-  mag-mid : (t : ℕ) → mag (suc y) t / 2 ^ 1074 ≡ (4503599627370496 + t) / 2 ^ k
+  pub mag-mid : (t : ℕ) → mag (suc y) t / 2 ^ 1074 ≡ (4503599627370496 + t) / 2 ^ k
   mag-mid t = ap (λ (n : ℕ). mag (suc y) t / n) unit-is ∙ mul-div-mul-right (4503599627370496 + t) (2 ^ k) (pow-pos y)
 
   mag-whole : (c n : ℕ) → c ≡ n * 2 ^ k → c * 2 ^ y ≡ n * 2 ^ 1074
@@ -155,7 +155,7 @@ trunc-own s x t n X H e =
     whole-pattern s x t n X H e
     ∙ sym (trunc-val (ofFields binary64 s x t) s (mag x t) (fields-val s x t X) ∙ ap (wholeNumber s) (ap (λ (a : ℕ). a / 2 ^ 1074) e ∙ mul-div-cancel n (pow-pos 1074)))
 
-mag-high : (x t : ℕ) → 1075 ≤ x → mag x t ≡ lead x t * 2 ^ (place x - 1074) * 2 ^ 1074
+pub mag-high : (x t : ℕ) → 1075 ≤ x → mag x t ≡ lead x t * 2 ^ (place x - 1074) * 2 ^ 1074
 mag-high zero t h = absurd (omega arith)
 mag-high (suc y) t h =
     ap (λ (n : ℕ). (4503599627370496 + t) * n) (ap (λ (n : ℕ). 2 ^ n) (sym (rejoin y h)) ∙ pow-add 2 (y - 1074) 1074)

@@ -10,6 +10,9 @@ pub mod Bounds
 pub mod Finite
 pub mod Rounding
 pub mod Fractions
+pub mod Special
+pub mod Integer
+mod Saturation
 mod Patterns
 mod Clearing
 mod Digits

@@ -122,7 +122,7 @@ down-le true m k h = go (eqb (m * 1 % 2 ^ suc k) 0) (m * 1 / 2 ^ suc k) (part-le
     go true n l = omega arith
     go false n l = omega arith
 
-trunc-exact : (s : Bool) (m : ℕ) (e : ℤ) → T (fits binary64 (fin s m e)) → HasValue (wholeNumber s (m * up e / down e)) s (m * up e / down e) 1
+pub trunc-exact : (s : Bool) (m : ℕ) (e : ℤ) → T (fits binary64 (fin s m e)) → HasValue (wholeNumber s (m * up e / down e)) s (m * up e / down e) 1
 trunc-exact s m (pos k) h = subst (λ (n : ℕ). HasValue (wholeNumber s n) s n 1) (sym (div-one (m * 2 ^ k))) (whole-large s m k h)
 trunc-exact s m (negsuc k) h = round-whole binary64 s (m * 1 / 2 ^ suc k) (le-trans (part-le m k) (le-of-lt (fits-lt s m (negsuc k) h)))
 
@@ -218,7 +218,7 @@ floor-own {x} h w =
     floor-value x (w .sign) (w .size) 1 (zero-lt-suc 0) (w .value) ∙ ap (wholeNumber (w .sign)) (down-whole (w .sign) (w .size) ∙ sym (div-one (w .size)))
     ∙ sym (trunc-value x (w .sign) (w .size) 1 (zero-lt-suc 0) (w .value)) ∙ trunc-own h w
 
-sign-value : (r : Bool) (x : Float) (s : Bool) (a c : ℕ) → HasValue x s a c → HasValue (withSign r x) r a c
+pub sign-value : (r : Bool) (x : Float) (s : Bool) (a c : ℕ) → HasValue x s a c → HasValue (withSign r x) r a c
 unfolding withSign
 sign-value r nan s a c v = absurd v
 sign-value r (inf t) s a c v = absurd v

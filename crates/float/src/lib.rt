@@ -4,8 +4,8 @@ ghost use mathlib.Core.Bool.{not, false};
 ghost use Prim.Native.Nat.{_+_, _-_, _*_, _/_, _%_, _^_, _<_, _≤_};
 ghost use lib.Dec.{T};
 ghost use lib.Ieee.Scale.{finite};
-ghost use lib.Ieee.{binary64, ofBits, toBits, round, rem};
-ghost use Rattle.float.specs.Rounding.{truncF, floorF, absF, copysignF, remEuclidF};
+ghost use lib.Ieee.{binary64, ofBits, toBits, round, rem, isNan, toUnsigned, toSigned};
+ghost use Rattle.float.specs.Rounding.{truncF, floorF, absF, copysignF, remEuclidF, toIntegerOrInfinity};
 ghost use Rattle.float.specs.Patterns.{fractionBits, lead, place};
 
 // b with its k lowest bits cleared.
@@ -42,6 +42,12 @@ pub fn is_finite(x: f64) -> bool
     ensures { λ r. ⌜ r ≡ finite x ⌝ }
 {
     x - x == 0.0
+}
+
+pub fn is_nan(x: f64) -> bool
+    ensures { λ r. ⌜ r ≡ isNan x ⌝ }
+{
+    x != x
 }
 
 pub fn abs(x: f64) -> f64
@@ -263,4 +269,101 @@ pub fn of_bits(n: u64) -> f64
         return 0.0 / 0.0;
     }
     f64::from_bits(n)
+}
+
+// The whole part of |x|, and u64::MAX where it is beyond: Rust's `x.abs() as u64`. A NaN gives 0.
+fn whole_part(x: f64) -> u64
+    ensures { λ r. ⌜ r ≡ toUnsigned 64 (absF x) ⌝ }
+{
+    if x != x {
+        return 0;
+    }
+    let b = f64::to_bits(x);
+    let e = exponent(b);
+    if e < 1023 {
+        return 0;
+    }
+    if e > 1086 {
+        return 0xffff_ffff_ffff_ffff;
+    }
+    let m = lead_bits(b);
+    if e < 1075 {
+        m >> (1075 - e)
+    } else {
+        m << (e - 1075)
+    }
+}
+
+// Rust's `x as i64`: toward zero, to the nearest end of the range where x is beyond it, and 0 for a NaN.
+pub fn as_i64(x: f64) -> i64
+    ensures { λ r. ⌜ r ≡ toSigned 63 x ⌝ }
+{
+    let w = whole_part(x);
+    if x < 0.0 {
+        if w < 0x8000_0000_0000_0000 {
+            0 - (w as i64)
+        } else {
+            -0x7fff_ffff_ffff_ffff - 1
+        }
+    } else if w < 0x8000_0000_0000_0000 {
+        w as i64
+    } else {
+        0x7fff_ffff_ffff_ffff
+    }
+}
+
+// Rust's `x as i32`.
+pub fn as_i32(x: f64) -> i32
+    ensures { λ r. ⌜ r ≡ toSigned 31 x ⌝ }
+{
+    let z = as_i64(x);
+    if z < -0x8000_0000 {
+        -0x8000_0000
+    } else if z > 0x7fff_ffff {
+        0x7fff_ffff
+    } else {
+        z as i32
+    }
+}
+
+// Rust's `x as u16`.
+pub fn as_u16(x: f64) -> u16
+    ensures { λ r. ⌜ r ≡ toUnsigned 16 x ⌝ }
+{
+    let z = as_i64(x);
+    if z < 0 {
+        0
+    } else if z > 0xffff {
+        0xffff
+    } else {
+        z as u16
+    }
+}
+
+// Rust's `x as u8`.
+pub fn as_u8(x: f64) -> u8
+    ensures { λ r. ⌜ r ≡ toUnsigned 8 x ⌝ }
+{
+    let z = as_i64(x);
+    if z < 0 {
+        0
+    } else if z > 0xff {
+        0xff
+    } else {
+        z as u8
+    }
+}
+
+// ECMA-262, ToIntegerOrInfinity of a number.
+pub fn to_integer_or_infinity(x: f64) -> f64
+    ensures { λ r. ⌜ r ≡ toIntegerOrInfinity x ⌝ }
+{
+    if x != x {
+        return 0.0;
+    }
+    let t = trunc(x);
+    if t == 0.0 {
+        return 0.0;
+    }
+    t
 }
