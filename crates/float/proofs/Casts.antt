@@ -1,19 +1,22 @@
--- A whole float `as` an integer. Assumes nothing.
+-- A whole float `as` an integer: Rust's cast gives the number, and Rattle's check of it asks that the float is not -0, which `x + 0.0` never is.
+-- Assumes nothing.
 use mathlib.Core.Path.{_≡_, refl, sym, ap, ap₂, _∙_, subst}
 use Prim.Native.Nat.{ℕ, zero, suc, _-_, _*_, _/_, _%_, _^_, _≤_, _<_, min}
-use native.Mathlib.Nat.{mul-one, zero-mul}
+use native.Mathlib.Nat.{mul-one, zero-mul, le-of-lt}
 use native.Mathlib.Omega.{arith}
 use mathlib.Core.Bool.{Bool, true, false, not, _&&_, cond, true≢false, false≢true}
-use lib.IntN.{ℤ, pos, negsuc, negℤ, natAbs, pos-ne-negsuc}
+use lib.IntN.{ℤ, pos, negsuc, negℤ, natAbs, _+ℤ_, +ℤ-idr, pos-ne-negsuc}
 use lib.Signed.{mag}
 use lib.Dec.{T-not, T, ltb, leb, eqb, lt→ltb, le→leb}
-use lib.Ieee.{Float, nan, inf, fin, Format, prec, up, down, toUnsigned, toSigned, whole, inUnsigned, inSigned}
+use lib.Ieee.{Float, nan, inf, fin, Format, binary64, prec, up, down, add, ofBits, toUnsigned, toSigned, whole, inUnsigned, inSigned}
 use lib.Pow.{pow-pos}
 use lib.Ieee.Fits.{down-pos, up-pos, eq→eqb, and-i}
 use lib.Ieee.Exact.{HasValue}
-use Rattle.float.specs.Whole.{signed, IsWhole, plain}
-use Rattle.float.proofs.Fractions.{cut}
-use Rattle.float.proofs.Whole.{size-is, zero-factor}
+use lib.Ieee.Scale.{finite}
+use Rattle.float.specs.Whole.{signed, IsWhole, truncZ, plain}
+use Rattle.float.proofs.Fractions.{cut, natAbs-signed}
+use Rattle.float.proofs.Whole.{size-is, zero-factor, add-whole, add-plain}
+use Rattle.float.proofs.Literal.{zero-whole}
 
 -- ---- the integer that it is, -0 included
 uncapped : (a c : ℕ) → a < c → min a (c - 1) ≡ a
@@ -107,3 +110,32 @@ inUnsigned-value f k (fin t m e) s n a v p l q r =
 
 pub inUnsigned-whole : (f : Format) (k : ℕ) {x : Float} {a : ℕ} → IsWhole x (pos a) → a ≤ 2 ^ prec f → a < 2 ^ k → T (plain x) → T (inUnsigned f k x)
 inUnsigned-whole f k {x} {a} w b r p = inUnsigned-value f k x (w .sign) (w .size) a (w .value) (whole-whole f w b p) p (w .is) r
+
+-- ---- the cast of `x + 0.0`
+zero-plain : T (plain (ofBits binary64 0))
+unfolding ofBits
+zero-plain = tt
+
+pub plus-zero : {x : Float} {z : ℤ} → IsWhole x z → natAbs z ≤ 2 ^ 53 → IsWhole (add binary64 x (ofBits binary64 0)) z × T (plain (add binary64 x (ofBits binary64 0)))
+plus-zero {x} {z} w h =
+    let b : natAbs (z +ℤ pos 0) ≤ 2 ^ 53 = subst (λ (i : ℤ). natAbs i ≤ 2 ^ 53) (sym (+ℤ-idr z)) h in
+    (subst (IsWhole (add binary64 x (ofBits binary64 0))) (+ℤ-idr z) (add-whole binary64 w zero-whole b), add-plain binary64 w zero-whole b zero-plain)
+
+pub cast-unsigned : (k : ℕ) {x : Float} {n : ℕ} → IsWhole x (pos n) → n ≤ 2 ^ 53 → n < 2 ^ k
+    → T (inUnsigned binary64 k (add binary64 x (ofBits binary64 0))) × (toUnsigned k (add binary64 x (ofBits binary64 0)) ≡ n)
+cast-unsigned k w h s = let v = plus-zero w h in (inUnsigned-whole binary64 k (v .0) h s (v .1), toUnsigned-whole k (v .0) s)
+
+pub cast-signed : (h : ℕ) {x : Float} {z : ℤ} → IsWhole x z → natAbs z ≤ 2 ^ 53 → mag z < 2 ^ h
+    → T (inSigned binary64 h (add binary64 x (ofBits binary64 0))) × (toSigned h (add binary64 x (ofBits binary64 0)) ≡ z)
+cast-signed h w b s = let v = plus-zero w b in (inSigned-whole binary64 h (v .0) b s (v .1), toSigned-whole h (v .0) s)
+
+-- ---- the cast of any finite float drops the fraction
+pub toSigned-trunc : (h : ℕ) (x : Float) → T (finite x) → natAbs (truncZ x) < 2 ^ h → toSigned h x ≡ truncZ x
+unfolding toSigned truncZ
+toSigned-trunc h nan F r = absurd F
+toSigned-trunc h (inf s) F r = absurd F
+toSigned-trunc h (fin s m e) F r = go s (subst (λ (i : ℕ). i < 2 ^ h) (natAbs-signed s (m * up e / down e)) r)
+  where
+    go : (s : Bool) → m * up e / down e < 2 ^ h → cond s (negℤ (pos (min (m * up e / down e) (2 ^ h)))) (pos (min (m * up e / down e) (2 ^ h - 1))) ≡ signed s (m * up e / down e)
+    go true k = ap (λ (i : ℕ). negℤ (pos i)) (uncapped-le (m * up e / down e) (2 ^ h) (le-of-lt k))
+    go false k = ap pos (uncapped (m * up e / down e) (2 ^ h) k)

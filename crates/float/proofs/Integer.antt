@@ -6,10 +6,12 @@ use lib.IntN.{ℤ, pos, negsuc}
 use lib.Dec.{T}
 use lib.Ieee.{Float, nan, inf, fin, binary64, fits, isNan, up, down, eq, round, ofBits, ofInt}
 use lib.Ieee.Scale.{finite}
-use Rattle.float.specs.Whole.{signed, IsWhole, truncZ}
+use Rattle.float.specs.Whole.{signed, IsWhole, truncZ, plain}
 use Rattle.float.specs.Rounding.{truncF, toIntegerOrInfinity}
 use Rattle.float.proofs.Rounding.{trunc-fin, trunc-whole}
-use Rattle.float.proofs.Order.{eqZ, eqZ→eq, eq-whole}
+use Rattle.float.proofs.Order.{eqZ, eqZ→eq, eq-whole, eq-yes, eq-no}
+use Rattle.float.proofs.Whole.{plain-nonzero}
+use Rattle.float.proofs.Special.{finite-number}
 use Rattle.float.proofs.Literal.{zero-whole}
 
 zero-int : ofBits binary64 0 ≡ ofInt binary64 (pos 0)
@@ -23,6 +25,10 @@ plus-int n = refl
 minus-int : (n : ℕ) → round binary64 true (suc n) 1 ≡ ofInt binary64 (negsuc n)
 unfolding ofInt
 minus-int n = refl
+
+zero-plain : T (plain (ofBits binary64 0))
+unfolding ofBits
+zero-plain = tt
 
 test : (x : Float) → T (fits binary64 x) → T (finite x) → eq (truncF x) (ofBits binary64 0) ≡ eqZ (truncZ x) (pos 0)
 test x h F = eq-whole (trunc-whole x h F) zero-whole
@@ -48,3 +54,15 @@ integer-other (fin s m d) h n e = trunc-fin s m d ∙ go s (m * up d / down d) (
     go false k e = plus-int k
     go true zero e = absurd (true≢false e)
     go true (suc k) e = minus-int k
+
+-- of a finite float it is the whole number, and not -0
+pub integer-whole : (x : Float) → T (fits binary64 x) → T (finite x) → IsWhole (toIntegerOrInfinity x) (truncZ x) × T (plain (toIntegerOrInfinity x))
+integer-whole x h F = go (eq (truncF x) (ofBits binary64 0)) refl
+  where
+    go : (b : Bool) → eq (truncF x) (ofBits binary64 0) ≡ b → IsWhole (toIntegerOrInfinity x) (truncZ x) × T (plain (toIntegerOrInfinity x))
+    go true e =
+        subst (λ (v : Float). IsWhole v (truncZ x) × T (plain v)) (integer-zero x h e)
+        (subst (IsWhole (ofBits binary64 0)) (sym (eq-yes (trunc-whole x h F) zero-whole e)) zero-whole, zero-plain)
+    go false e =
+        subst (λ (v : Float). IsWhole v (truncZ x) × T (plain v)) (integer-other x h (finite-number x F) e)
+        (trunc-whole x h F, plain-nonzero (trunc-whole x h F) (eq-no (trunc-whole x h F) zero-whole e))

@@ -1,18 +1,24 @@
--- The order of whole floats is that of the integers. Assumes nothing.
+-- The order of whole floats is that of the whole numbers; and what each outcome of a test in the code says of them. Assumes nothing.
 use mathlib.Core.Path.{_≡_, refl, sym, ap, ap₂, _∙_, subst}
-use Prim.Native.Nat.{ℕ, zero, suc, _+_, _*_, _≤_, _<_}
-use native.Mathlib.Nat.{zero-add, mul-pos, mul-comm, mul-assoc, add-mul, zero-mul, lt-irrefl, zero-lt-suc, eq-of-mul-eq-mul-right, suc-add}
+use Prim.Native.Nat.{ℕ, zero, suc, _+_, _*_, _/_, _≤_, _<_}
+use native.Mathlib.Nat.{zero-add, mul-pos, mul-comm, mul-assoc, add-mul, zero-mul, lt-irrefl, zero-lt-suc, eq-of-mul-eq-mul-right, suc-add, mul-right-comm, le-of-suc-le-suc, div-lt-iff-lt-mul, lt-of-mul-lt-mul-right, mul-lt-mul-of-pos-right, lt-of-le-of-lt, le-refl}
 use native.Mathlib.Omega.{arith}
-use mathlib.Core.Bool.{Bool, true, false, not, _&&_, _||_, Bool·beq}
+use mathlib.Core.Bool.{Bool, true, false, not, _&&_, _||_, Bool·beq, true≢false}
+use mathlib.Core.Logic.{_≢_}
 use lib.IntN.{ℤ, pos, negsuc, negℤ, natAbs, pos-ne-negsuc}
-use lib.Signed.{ltZ, leZ}
-use lib.Dec.{T, leb, ltb, eqb, ltb→lt, lt→ltb, leb→le, le→leb, eqb→eq, not-T, leb·zero, leb·suc-zero, leb·suc-suc, eqb·zero-suc, eqb·suc-zero, eqb·suc-suc}
-use lib.Ieee.{Float, nan, inf, fin, up, down, below, level, lt, eq, le}
+use lib.Signed.{ltZ, leZ, _≤ℤ_, _<ℤ_, leZ-yes, ltZ-yes, clashℤ}
+use lib.Dec.{T, leb, ltb, eqb, ltb→lt, lt→ltb, leb→le, le→leb, eqb→eq, eqb-refl, nltb→le, not-T, leb·zero, leb·suc-zero, leb·suc-suc, eqb·zero-suc, eqb·suc-zero, eqb·suc-suc}
+use lib.Ieee.{Float, nan, inf, fin, up, down, below, level, lt, eq, le, ne}
 use lib.Ieee.Fits.{down-pos, eq→eqb, and-l, and-r}
 use lib.Ieee.Exact.{HasValue}
-use Rattle.float.specs.Whole.{signed, IsWhole}
-use Rattle.float.proofs.Fractions.{same-test}
-use Rattle.float.proofs.Ops.{ltb-scale, over-left, over-right}
+use lib.Ieee.Bits.{is-true, is-false}
+use lib.Ieee.Scale.{finite}
+use Rattle.ecma262.proofs.Machine.{true-T, false-T, le-true, le-false, lt-true, lt-false}
+use Rattle.float.specs.Whole.{signed, IsWhole, truncZ}
+use Rattle.float.specs.Rounding.{absF}
+use Rattle.float.proofs.Fractions.{same-test, natAbs-signed}
+use Rattle.float.proofs.Ops.{ltb-scale, over-left, over-right, strip}
+use Rattle.float.proofs.Whole.{positive-value}
 
 -- ---- the tests at a common divisor
 eqb-scale : (a b c : ℕ) → 0 < c → eqb (a * c) (b * c) ≡ eqb a b
@@ -146,3 +152,90 @@ or-leZ (negsuc a) (negsuc b) = ap (λ (i : Bool). ltb b a || i) (flip-eqb a b) �
 pub le-whole : {x y : Float} {z w : ℤ} → IsWhole x z → IsWhole y w → le x y ≡ leZ z w
 unfolding le
 le-whole {x} {y} {z} {w} u v = ap₂ (λ (i j : Bool). i || j) (lt-whole u v) (eq-whole u v) ∙ or-leZ z w
+
+pub ne-whole : {x y : Float} {z w : ℤ} → IsWhole x z → IsWhole y w → ne x y ≡ not (eqZ z w)
+unfolding ne
+ne-whole u v = ap not (eq-whole u v)
+
+eqZ-same : (z w : ℤ) → z ≡ w → eqZ z w ≡ true
+eqZ-same z w q = ap (λ (i : ℤ). eqZ i w) q ∙ own w
+  where
+    own : (w : ℤ) → eqZ w w ≡ true
+    own (pos n) = is-true (eqb n n) (eqb-refl n)
+    own (negsuc n) = is-true (eqb n n) (eqb-refl n)
+
+flip : (b c : Bool) → not b ≡ c → b ≡ not c
+flip true true e = absurd (true≢false (sym e))
+flip true false e = refl
+flip false true e = refl
+flip false false e = absurd (true≢false e)
+
+-- ---- a test that passed, and one that failed
+module _ {x y : Float} {z w : ℤ} (u : IsWhole x z) (v : IsWhole y w) where
+  pub lt-yes : lt x y ≡ true → z <ℤ w
+  lt-yes e = lt-true (sym (lt-whole u v) ∙ e)
+
+  pub lt-no : lt x y ≡ false → w ≤ℤ z
+  lt-no e = lt-false (sym (lt-whole u v) ∙ e)
+
+  pub le-yes : le x y ≡ true → z ≤ℤ w
+  le-yes e = le-true (sym (le-whole u v) ∙ e)
+
+  pub le-no : le x y ≡ false → w <ℤ z
+  le-no e = le-false (sym (le-whole u v) ∙ e)
+
+  pub eq-yes : eq x y ≡ true → z ≡ w
+  eq-yes e = eqZ→eq z w (true-T (eqZ z w) (sym (eq-whole u v) ∙ e))
+
+  pub eq-no : eq x y ≡ false → z ≢ w
+  eq-no e q = true≢false (sym (eqZ-same z w q) ∙ sym (eq-whole u v) ∙ e)
+
+  pub ne-yes : ne x y ≡ true → z ≢ w
+  unfolding ne
+  ne-yes e = eq-no (flip (eq x y) true e)
+
+  pub ne-no : ne x y ≡ false → z ≡ w
+  unfolding ne
+  ne-no e = eq-yes (flip (eq x y) false e)
+
+  -- ---- and the outcome, from the order of the whole numbers
+  pub lt-holds : z <ℤ w → lt x y ≡ true
+  lt-holds h = lt-whole u v ∙ is-true (ltZ z w) (h .lt)
+
+  pub lt-fails : w ≤ℤ z → lt x y ≡ false
+  lt-fails h = lt-whole u v ∙ is-false (ltZ z w) (not-T (ltZ z w) (λ t. clashℤ (ltZ-yes t) h))
+
+  pub le-holds : z ≤ℤ w → le x y ≡ true
+  le-holds h = le-whole u v ∙ is-true (leZ z w) (h .le)
+
+  pub le-fails : w <ℤ z → le x y ≡ false
+  le-fails h = le-whole u v ∙ is-false (leZ z w) (not-T (leZ z w) (λ t. clashℤ h (leZ-yes t)))
+
+  pub eq-holds : z ≡ w → eq x y ≡ true
+  eq-holds q = eq-whole u v ∙ eqZ-same z w q
+
+  pub eq-fails : z ≢ w → eq x y ≡ false
+  eq-fails n = eq-whole u v ∙ is-false (eqZ z w) (not-T (eqZ z w) (λ t. n (eqZ→eq z w t)))
+
+at-most : (X D Y E n : ℕ) → 0 < D → 0 < E → Y * 1 ≡ n * E → ltb (Y * D) (X * E) ≡ false → X / D ≤ n
+at-most X D Y E n DP EP h t =
+    let l : X * E ≤ Y * D = nltb→le (Y * D) (X * E) (false-T (ltb (Y * D) (X * E)) t) in
+    let k : Y * D ≡ n * D * E = ap (λ (i : ℕ). i * D) (strip Y n E h) ∙ mul-right-comm n E D in
+    le-of-suc-le-suc (div-lt-iff-lt-mul DP .1 (lt-of-mul-lt-mul-right E (over n D E (X * E) EP DP (subst (λ (i : ℕ). X * E ≤ i) k l))))
+  where
+    over : (n D E a : ℕ) → 0 < E → 0 < D → a ≤ n * D * E → a < suc n * D * E
+    over n D E a e d l = lt-of-le-of-lt l (mul-lt-mul-of-pos-right (mul-lt-mul-of-pos-right (le-refl (suc n)) d) e)
+
+bounded : (x y : Float) (n : ℕ) → HasValue y false n 1 → T (finite x) → lt y (absF x) ≡ false → natAbs (truncZ x) ≤ n
+unfolding lt absF truncZ
+bounded nan y n v F t = absurd F
+bounded (inf s) y n v F t = absurd F
+bounded (fin s m e) nan n v F t = absurd v
+bounded (fin s m e) (inf u) n v F t = absurd v
+bounded (fin s m e) (fin true k d) n v F t = absurd (true≢false (v .0))
+bounded (fin s m e) (fin false k d) n v F t =
+    subst (λ (i : ℕ). i ≤ n) (sym (natAbs-signed s (m * up e / down e))) (at-most (m * up e) (down e) (k * up d) (down d) n (down-pos e) (down-pos d) (v .1) t)
+
+-- ---- a bound on the magnitude of any finite float bounds its whole part: `|x| > y` failed
+pub trunc-bounded : (x : Float) {y : Float} {n : ℕ} → 0 < n → IsWhole y (pos n) → T (finite x) → lt y (absF x) ≡ false → natAbs (truncZ x) ≤ n
+trunc-bounded x {y} {n} N w F t = bounded x y n (positive-value N w) F t

@@ -2,22 +2,21 @@
 -- quotient is the floor of the quotient. Assumes nothing.
 use mathlib.Core.Path.{_≡_, refl, sym, ap, ap₂, _∙_, subst}
 use mathlib.Core.Logic.{_⊎_, inl, inr}
-use Prim.Native.Nat.{ℕ, zero, suc, _+_, _*_, _/_, _%_, _^_, _≤_, _<_}
-use native.Mathlib.Nat.{eq-zero-or-pos, mul-one, add-zero, zero-lt-suc, div-add-mod', suc-mul, mod-lt, div-one}
+use Prim.Native.Nat.{ℕ, zero, suc, _+_, _*_, _-_, _/_, _%_, _^_, _≤_, _<_}
+use native.Mathlib.Nat.{eq-zero-or-pos, mul-one, add-zero, zero-lt-suc, div-add-mod', suc-mul, mod-lt, zero-mod, suc-mod, mod-self}
 use native.Mathlib.Omega.{arith}
 use mathlib.Core.Bool.{Bool, true, false, cond}
 use lib.IntN.{ℤ, pos, natAbs}
-use lib.Signed.{quotZ}
 use lib.Dec.{T}
 use lib.Pow.{pow-pos}
 use lib.Ieee.{Float, nan, inf, fin, Format, binary64, prec, low, unlike, round, div}
 use lib.Ieee.Fits.{div-fits}
 use lib.Ieee.Exact.{HasValue}
 use lib.Ieee.Scale.{grid, finite}
-use Rattle.ecma262.specs.Whole.{floorDiv}
-use Rattle.float.specs.Whole.{signed, IsWhole, floorZ, truncZ}
+use Rattle.ecma262.specs.Whole.{floorDiv, floorMod}
+use Rattle.float.specs.Whole.{signed, IsWhole, floorZ}
 use Rattle.float.specs.Rounding.{floorF}
-use Rattle.float.proofs.Fractions.{floor-same, floor-in, div-in}
+use Rattle.float.proofs.Fractions.{down, ceil-exact, floor-signed, floor-same, floor-in}
 use Rattle.float.proofs.Rounding.{floorZ-value, floor-whole, value-finite}
 use Rattle.float.proofs.Nearest.{strictly, strictly-value, exactly-value}
 use Rattle.float.proofs.Whole.{size-is, positive-value}
@@ -77,3 +76,28 @@ div-finite f u w A D S = subst (λ (r : Float). T (finite r)) (sym (quotient-is 
 pub floor-div : {x y : Float} {t : ℤ} {d : ℕ} → IsWhole x t → IsWhole y (pos d) → natAbs t < 2 ^ 53 → 0 < d → d < 2 ^ 53 → IsWhole (floorF (div binary64 x y)) (floorDiv t d)
 floor-div {x} {y} u w A D S =
     subst (IsWhole (floorF (div binary64 x y))) (floorZ-div binary64 u w A D S) (floor-whole (div binary64 x y) (div-fits binary64 x y) (div-finite binary64 u w A D S))
+
+-- ---- where the divisor goes into it, the quotient itself is the whole number
+no-rest : (s : Bool) (a b : ℕ) → 0 < b → floorMod (signed s a) b ≡ 0 → a % b ≡ 0
+no-rest false a b B e = e
+no-rest true zero b B e = zero-mod b
+no-rest true (suc a) b B e = suc-mod a b ∙ ap (λ (i : ℕ). i % b) (full (a % b) b (mod-lt a B) e) ∙ mod-self b
+  where
+    full : (r b : ℕ) → r < b → b - suc r ≡ 0 → suc r ≡ b
+    full r b l e = omega arith
+
+down-exact : (s : Bool) (a b : ℕ) → a % b ≡ 0 → down s a b ≡ a / b
+down-exact false a b e = refl
+down-exact true a b e = ceil-exact a b e
+
+pub div-exact : (f : Format) {x y : Float} {t : ℤ} {d : ℕ} → IsWhole x t → IsWhole y (pos d) → natAbs t < 2 ^ prec f → 0 < d → floorMod t d ≡ 0 → IsWhole (div f x y) (floorDiv t d)
+div-exact f {x} {y} {t} {d} u w A D e =
+    let s = u .sign in
+    let n = u .size in
+    let r : n % d ≡ 0 = no-rest s n d D (ap (λ (z : ℤ). floorMod z d) (u .is) ∙ e) in
+    subst (λ (v : Float). IsWhole v (floorDiv t d)) (sym (quotient-is f u w D)) (record {
+      sign = s;
+      size = n / d;
+      value = exactly-value f s n d D (subst (λ (k : ℕ). k < 2 ^ prec f) (sym (size-is u)) A) r;
+      is = ap (signed s) (sym (down-exact s n d r)) ∙ sym (floor-signed s n d D) ∙ ap (λ (z : ℤ). floorDiv z d) (u .is);
+    })

@@ -1,4 +1,5 @@
--- Whole numbers: `ofInt`, the sign, sums, differences and products, uniqueness. Assumes nothing.
+-- Whole numbers in a float: an integer `as` a float, the sign, sums, differences and products, each exact to 2 ^ 53 in magnitude; one float for one whole
+-- number, but for 0, which is two. Assumes nothing.
 use mathlib.Core.Path.{_≡_, refl, sym, ap, ap₂, _∙_, subst}
 use mathlib.Core.Logic.{_≢_, _⊎_, inl, inr}
 use Prim.Native.Nat.{ℕ, zero, suc, _+_, _-_, _*_, _/_, _%_, _^_, _≤_, _<_}
@@ -8,10 +9,10 @@ use mathlib.Core.Bool.{Bool, true, false, not, _&&_, cond}
 use lib.IntN.{ℤ, pos, negsuc, negℤ, natAbs, subℕ, _+ℤ_, _-ℤ_, _*ℤ_, negℤ-negℤ, negℤ-+ℤ, +ℤ-comm, pos-ne-negsuc}
 use lib.Dec.{T, ltb, eqb, ltb→lt, lt→ltb, nltb→le, eqb→eq, not-T, T-not}
 use lib.Arith.{le→nltb}
-use lib.Ieee.{Float, nan, inf, fin, Format, prec, unlike, up, down, round, sum, neg, add, sub, mul, ofInt, fits}
-use lib.Ieee.Bits.{cond-no, is-true}
+use lib.Ieee.{Float, nan, inf, fin, Format, binary64, prec, unlike, up, down, round, sum, neg, add, sub, mul, ofInt, ofBits, fits}
+use lib.Ieee.Bits.{cond-no, is-true, ofBits-fits}
 use lib.Ieee.Exact.{HasValue}
-use lib.Ieee.Fits.{down-pos, up-pos, eq→eqb}
+use lib.Ieee.Fits.{down-pos, up-pos, eq→eqb, ofInt-fits}
 use lib.Ieee.Back.{round-whole, whole-unique}
 use Rattle.float.specs.Whole.{signed, IsWhole, plain}
 use Rattle.float.proofs.Ops.{mul-is, add-is}
@@ -187,7 +188,15 @@ add-plain f {x} {y} {z} {w} u v h p =
     rounded-plain f (add f x y) (z +ℤ w) ((T (u .sign) × (u .size ≡ 0)) × (T (v .sign) × (v .size ≡ 0))) (add-cases f u v) h
     (λ n. not-plain y (v .sign) (v .size) (v .value) (n .1 .0) (n .1 .1) p)
 
--- ---- one float for one whole number
+zero-fits : (f : Format) (s : Bool) → T (fits f (fin s 0 (pos 0)))
+unfolding fits
+zero-fits f s = tt
+
+int-zero : fin false 0 (pos 0) ≡ ofInt binary64 (pos 0)
+unfolding ofInt
+int-zero = refl
+
+-- ---- one float for one whole number, but for 0
 same-sign : (s t : Bool) (m n : ℕ) → signed s m ≡ signed t n → (m ≡ 0 → ⊥) → s ≡ t
 same-sign true true m n e h = refl
 same-sign false false m n e h = refl
@@ -201,3 +210,33 @@ unique f {x} {y} {z} p q u v h =
     let m : u .size ≡ v .size = size-is u ∙ sym (size-is v) in
     let s : u .sign ≡ v .sign = same-sign (u .sign) (v .sign) (u .size) (v .size) (u .is ∙ sym (v .is)) (λ e. h (sym (u .is) ∙ ap (signed (u .sign)) e ∙ zero-signed (u .sign))) in
     whole-unique f x y (v .sign) (v .size) p q (subst (λ (i : ℕ). HasValue x (v .sign) i 1) m (subst (λ (i : Bool). HasValue x i (u .size) 1) s (u .value))) (v .value)
+
+-- ---- 0 is two floats
+zero-value : (f : Format) (x : Float) (s : Bool) → T (fits f x) → HasValue x s 0 1 → x ≡ fin s 0 (pos 0)
+zero-value f x s h v = whole-unique f x (fin s 0 (pos 0)) s 0 h (zero-fits f s) v (refl, refl)
+
+pub zero-cases : {x : Float} → T (fits binary64 x) → IsWhole x (pos 0) → (s : Bool) × (x ≡ fin s 0 (pos 0))
+zero-cases {x} h w = (w .sign, zero-value binary64 x (w .sign) h (subst (λ (n : ℕ). HasValue x (w .sign) n 1) (size-is w) (w .value)))
+
+zero-plain : {x : Float} → T (fits binary64 x) → IsWhole x (pos 0) → T (plain x) → x ≡ ofInt binary64 (pos 0)
+zero-plain {x} h w p = let c = zero-cases h w in c .1 ∙ go (c .0) (subst (λ (v : Float). T (plain v)) (c .1) p)
+  where
+    go : (s : Bool) → T (plain (fin s 0 (pos 0))) → fin s 0 (pos 0) ≡ ofInt binary64 (pos 0)
+    go false p = int-zero
+    go true p = absurd p
+
+-- the float that `as f64` makes of z, where x is not -0
+pub int-unique : {x : Float} {z : ℤ} → T (fits binary64 x) → IsWhole x z → T (plain x) → natAbs z ≤ 2 ^ 53 → x ≡ ofInt binary64 z
+int-unique {x} {z} h w p b = go z w b
+  where
+    go : (z : ℤ) → IsWhole x z → natAbs z ≤ 2 ^ 53 → x ≡ ofInt binary64 z
+    go (pos zero) w b = zero-plain h w p
+    go (pos (suc n)) w b = unique binary64 h (ofInt-fits binary64 (pos (suc n))) w (ofInt-whole binary64 (pos (suc n)) b) (λ e. some n (ap natAbs e))
+      where
+        some : (n : ℕ) → suc n ≡ 0 → ⊥
+        some n e = omega arith
+    go (negsuc n) w b = unique binary64 h (ofInt-fits binary64 (negsuc n)) w (ofInt-whole binary64 (negsuc n) b) (λ e. pos-ne-negsuc 0 n (sym e))
+
+-- so a literal, known by its pattern b, is the float of its number
+pub literal-int : (b : ℕ) {z : ℤ} → IsWhole (ofBits binary64 b) z → z ≢ pos 0 → natAbs z ≤ 2 ^ 53 → ofBits binary64 b ≡ ofInt binary64 z
+literal-int b {z} w n h = unique binary64 (ofBits-fits binary64 b) (ofInt-fits binary64 z) w (ofInt-whole binary64 z h) n
