@@ -6,7 +6,7 @@ ghost use lib.Dec.{leb};
 ghost use lib.IntN.{natAbs};
 ghost use lib.ListN.{length};
 ghost use Rattle.zone.specs.Bytes.{littleEndian, signed};
-ghost use Rattle.zone.specs.Zone.{records, recordAt, Accepted, accepts, offsetAt};
+ghost use Rattle.zone.specs.Zone.{recordAt, records, Accepted, keeps, accepts, offsetAt};
 
 fn wide(x: u8) -> u32
     ensures { λ r. ⌜ (r ≡ x) × (r < 256) ⌝ }
@@ -78,6 +78,19 @@ fn is_bounded(offset: i32) -> bool
     offset <= 86399
 }
 
+// Whether record i is within the bounds, and the first or after the one before it.
+fn keeps_rule(zone: &[u8], i: usize) -> bool
+    requires { ⌜ 12 * i + 12 ≤ length (now zone) ⌝ }
+    ensures { λ r. ⌜ r ≡ keeps (records (now (zone .entry))) i ⌝ }
+{
+    if 0 < i {
+        if second_at(zone, i) <= second_at(zone, i - 1) {
+            return false;
+        }
+    }
+    is_bounded(offset_at(zone, i))
+}
+
 // Whether bytes are a zone list: refusal 1 is the answer `false`.
 pub fn accept(zone: &[u8]) -> bool
     ensures { λ r. ⌜ r ≡ accepts (now (zone .entry)) ⌝ }
@@ -92,20 +105,11 @@ pub fn accept(zone: &[u8]) -> bool
     if 1024 < n {
         return false;
     }
-    if !is_bounded(offset_at(zone, 0)) {
-        return false;
-    }
-    let mut before = second_at(zone, 0);
-    let mut i = 1;
+    let mut i = 0;
     while i < n {
-        let second = second_at(zone, i);
-        if second <= before {
+        if !keeps_rule(zone, i) {
             return false;
         }
-        if !is_bounded(offset_at(zone, i)) {
-            return false;
-        }
-        before = second;
         i += 1;
     }
     true
