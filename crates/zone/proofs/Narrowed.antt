@@ -1,5 +1,5 @@
 -- What halving keeps between `low` and `high`: the record that decides at t lies from `low` to before `high`. Assumes nothing.
-use mathlib.Core.Path.{_≡_, refl, sym, ap, subst, _∙_}
+use mathlib.Core.Path.{_≡_, refl, sym, subst, _∙_}
 use mathlib.Core.List.{List}
 use mathlib.Core.Logic.{_⊎_, inl, inr, ⊎-elim}
 use Prim.Native.Nat.{ℕ, _+_, _/_, _<_, _≤_}
@@ -9,7 +9,7 @@ use lib.IntN.{ℤ}
 use lib.ListN.{length}
 use lib.Signed.{_≤ℤ_, _<ℤ_}
 use Rattle.ecma262.proofs.Int.{ints}
-use Rattle.zone.specs.Zone.{recordAt, records, secondOf, offsetOf, Accepted, IsDeciding, offsetAt}
+use Rattle.zone.specs.Zone.{recordAt, records, secondOf, Accepted, offsetAt}
 use Rattle.zone.proofs.Rule.{records-length, second-is, offset-is}
 use Rattle.zone.proofs.Offset.{offset-decided}
 

@@ -1,20 +1,16 @@
 -- What holds of the offset that an accepted list gives, for every whole second: it is within the bounds, and a second beyond 64 bits takes
 -- the nearest end's. Assumes nothing.
-use mathlib.Core.Path.{_≡_, refl, sym, ap, subst, _∙_}
-use mathlib.Core.Bool.{true, false, cond}
+use mathlib.Core.Path.{_≡_, refl, sym, ap, subst}
 use mathlib.Core.List.{List}
 use mathlib.Core.Logic.{_⊎_, inl, inr, ⊎-elim}
-use Prim.Native.Nat.{ℕ, _+_, _/_, _^_, _<_, _≤_}
+use Prim.Native.Nat.{ℕ, _^_, _<_, _≤_}
 use native.Mathlib.Omega.{arith}
 use lib.IntN.{ℤ, pos, negsuc, natAbs}
 use lib.ListN.{length}
-use lib.Signed.{mag, leZ, _≤ℤ_, _<ℤ_}
-use mir.Syntax.{w64}
-use mir.Val.{SFits}
-use Rattle.ecma262.proofs.Int.{plus, minus, ints}
-use Rattle.ecma262.proofs.Machine.{le-true, le-false}
-use Rattle.zone.specs.Bytes.{signed, littleEndian}
-use Rattle.zone.specs.Zone.{Record, noRecord, recordAt, records, secondOf, offsetOf, Rising, IsZoneList, Accepted, IsDeciding, decides, offsetAt, nearest64}
+use lib.Signed.{mag, ltZ, _≤ℤ_, _<ℤ_}
+use Rattle.ecma262.proofs.Int.{ints}
+use Rattle.ecma262.proofs.Machine.{lt-true}
+use Rattle.zone.specs.Zone.{Record, recordAt, records, secondOf, offsetOf, Rising, IsZoneList, Accepted, IsDeciding, decides, offsetAt, least64, greatest64, nearest64}
 use Rattle.zone.proofs.Numbers.{signed-range}
 use Rattle.zone.proofs.Deciding.{by-flag, decides-only, decides-is}
 use Rattle.zone.proofs.Rule.{records-length, records-at}
@@ -34,7 +30,7 @@ offset-bounded list rule t = rule .bounded _ (deciding list rule t .within)
 
 -- ---- "A second beyond 64 bits takes the nearest end."
 abbrev In64 : ℤ → Type 0
-In64 z = (negsuc 9223372036854775807 ≤ℤ z) × (z ≤ℤ pos 9223372036854775807)
+In64 z = (least64 ≤ℤ z) × (z ≤ℤ greatest64)
 
 in-64 : (z : ℤ) → mag z < 2 ^ 63 → In64 z
 in-64 (pos n) h = (omega ints, omega ints)
@@ -50,11 +46,11 @@ second-in-64 bytes i l =
 -- so the same record decides at the nearest end
 nearest-decides : (s : ℕ → ℤ) (n : ℕ) (t : ℤ) (k : ℕ) → Rising s n → ((i : ℕ) → i < n → In64 (s i)) → IsDeciding s n t k → IsDeciding s n (nearest64 t) k
 nearest-decides s n t k up in64 d =
-    by-flag (λ (u : ℤ). IsDeciding s n u k) (leZ t (pos 9223372036854775807)) _ _
-    (λ y. by-flag (λ (u : ℤ). IsDeciding s n u k) (leZ (negsuc 9223372036854775807) t) _ _ (λ z. d) (λ z. low (le-false z)))
-    (λ y. high (le-false y))
+    by-flag (λ (u : ℤ). IsDeciding s n u k) (ltZ t least64) _ _
+    (λ y. low (lt-true y))
+    (λ _. by-flag (λ (u : ℤ). IsDeciding s n u k) (ltZ greatest64 t) _ _ (λ y. high (lt-true y)) (λ _. d))
   where
-    low : t <ℤ negsuc 9223372036854775807 → IsDeciding s n (negsuc 9223372036854775807) k
+    low : t <ℤ least64 → IsDeciding s n (least64) k
     low b =
         record {
           within = d .within;
@@ -62,7 +58,7 @@ nearest-decides s n t k up in64 d =
           last = λ j a l. let from = in64 0 (omega (arith, l)) in let above = up 0 j (omega (arith, a)) l in omega ints;
         }
 
-    high : pos 9223372036854775807 <ℤ t → IsDeciding s n (pos 9223372036854775807) k
+    high : greatest64 <ℤ t → IsDeciding s n (greatest64) k
     high b =
         record {
           within = d .within;

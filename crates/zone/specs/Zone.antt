@@ -94,6 +94,12 @@ decides s (suc n) t = cond (leZ (s n) t) n (decides s n t)
 unfoldable pub offsetAt : List Record → ℤ → ℤ
 offsetAt list t = offsetOf list (decides (secondOf list) (length list) t)
 
--- "A second beyond 64 bits takes the nearest end." By the law `offset-nearest` (proofs/Offset.antt) the definition above does so.
+-- "A second beyond 64 bits takes the nearest end": -2^63 below, 2^63 - 1 above. `offsetAt` does so by law (`offset-nearest`, proofs/Offset.antt).
+abbrev pub least64 : ℤ
+least64 = negsuc 9223372036854775807
+
+abbrev pub greatest64 : ℤ
+greatest64 = pos 9223372036854775807
+
 abbrev pub nearest64 : ℤ → ℤ
-nearest64 t = cond (leZ t (pos 9223372036854775807)) (cond (leZ (negsuc 9223372036854775807) t) t (negsuc 9223372036854775807)) (pos 9223372036854775807)
+nearest64 t = cond (ltZ t least64) least64 (cond (ltZ greatest64 t) greatest64 t)
