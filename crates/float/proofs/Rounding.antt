@@ -2,15 +2,14 @@
 -- number `floorZ x`: nothing is rounded. A whole number is its own floor and its own whole part. `HasValue x s a c` says that x is finite, has the sign s,
 -- and is a / c in size. Assumes nothing.
 use mathlib.Core.Path.{_≡_, refl, sym, ap, ap₂, _∙_, subst}
-use mathlib.Core.Logic.{_≢_}
 use Prim.Native.Nat.{ℕ, zero, suc, _+_, _-_, _*_, _/_, _%_, _^_, _≤_, _<_, compare}
 use native.Mathlib.Nat.{le-trans, le-of-eq, le-of-lt, mul-one, mul-assoc, zero-lt-suc, zero-mul, div-one, div-le-self, mod-one, mul-lt-mul-of-pos-right}
 use native.Mathlib.Omega.{arith}
-use mathlib.Core.Bool.{Bool, true, false, cond, not, _&&_, true≢false}
-use lib.IntN.{ℤ, pos, negsuc, negℤ, natAbs}
+use mathlib.Core.Bool.{Bool, true, false, cond, _&&_}
+use lib.IntN.{ℤ, pos, negsuc, natAbs}
 use lib.Dec.{T, ltb, leb, eqb, ltb→lt}
 use lib.Pow.{pow-pos, pow-add}
-use lib.Ieee.{Float, nan, inf, fin, binary64, up, down, fits, isNan, size, nearest, odd, units, round, ofInt}
+use lib.Ieee.{Float, nan, inf, fin, binary64, up, down, fits, size, nearest, odd, units, round, ofInt}
 use lib.Ieee.Fits.{down-pos, and-l, and-r, round-fits, nan-fits, inf-fits}
 use lib.Ieee.Exact.{HasValue, round-exact}
 use lib.Ieee.Back.{round-whole, whole-unique}
@@ -20,7 +19,7 @@ use Rattle.ecma262.specs.Whole.{floorDiv}
 use Rattle.float.specs.Whole.{signed, IsWhole, floorZ, truncZ}
 use Rattle.float.specs.Rounding.{truncF, floorF, withSign, isNegative, absF, copysignF}
 use Rattle.float.proofs.Fractions as frac
-use Rattle.float.proofs.Fractions.{ceil, ceil-same, floor-signed, floor-same, cut}
+use Rattle.float.proofs.Fractions.{ceil-same, floor-signed, floor-same, cut}
 
 -- ---- the f64 of a whole number, with a sign that also a zero has
 abbrev pub wholeNumber : Bool → ℕ → Float
@@ -122,7 +121,7 @@ down-le true m k h = go (eqb (m * 1 % 2 ^ suc k) 0) (m * 1 / 2 ^ suc k) (part-le
     go true n l = omega arith
     go false n l = omega arith
 
-pub trunc-exact : (s : Bool) (m : ℕ) (e : ℤ) → T (fits binary64 (fin s m e)) → HasValue (wholeNumber s (m * up e / down e)) s (m * up e / down e) 1
+trunc-exact : (s : Bool) (m : ℕ) (e : ℤ) → T (fits binary64 (fin s m e)) → HasValue (wholeNumber s (m * up e / down e)) s (m * up e / down e) 1
 trunc-exact s m (pos k) h = subst (λ (n : ℕ). HasValue (wholeNumber s n) s n 1) (sym (div-one (m * 2 ^ k))) (whole-large s m k h)
 trunc-exact s m (negsuc k) h = round-whole binary64 s (m * 1 / 2 ^ suc k) (le-trans (part-le m k) (le-of-lt (fits-lt s m (negsuc k) h)))
 
@@ -218,7 +217,7 @@ floor-own {x} h w =
     floor-value x (w .sign) (w .size) 1 (zero-lt-suc 0) (w .value) ∙ ap (wholeNumber (w .sign)) (down-whole (w .sign) (w .size) ∙ sym (div-one (w .size)))
     ∙ sym (trunc-value x (w .sign) (w .size) 1 (zero-lt-suc 0) (w .value)) ∙ trunc-own h w
 
-pub sign-value : (r : Bool) (x : Float) (s : Bool) (a c : ℕ) → HasValue x s a c → HasValue (withSign r x) r a c
+sign-value : (r : Bool) (x : Float) (s : Bool) (a c : ℕ) → HasValue x s a c → HasValue (withSign r x) r a c
 unfolding withSign
 sign-value r nan s a c v = absurd v
 sign-value r (inf t) s a c v = absurd v

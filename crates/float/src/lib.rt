@@ -288,42 +288,18 @@ pub fn rem_euclid(x: f64, y: f64) -> f64
 
 // ---- integers
 
-// The whole part of |x|, and u64::MAX where it is beyond: Rust's `x.abs() as u64`. A NaN gives 0.
-fn whole_part(x: f64) -> u64
-    ensures { λ r. ⌜ r ≡ toUnsigned 64 (absF x) ⌝ }
-{
-    if x != x {
-        return 0;
-    }
-    let b = f64::to_bits(x);
-    let e = exponent(b);
-    if e < 1023 {
-        return 0;
-    }
-    if e > 1086 {
-        return 0xffff_ffff_ffff_ffff;
-    }
-    let m = lead_bits(b);
-    if e < 1075 {
-        m >> (1075 - e)
-    } else {
-        m << (e - 1075)
-    }
-}
-
-// Rust's `x as i64`: toward zero, to the nearest end of the range where x is beyond it, and 0 for a NaN.
+// Rust's `x as i64`: toward zero, to the nearer end of the range where x is beyond it, and 0 for a NaN.
 pub fn as_i64(x: f64) -> i64
     ensures { λ r. ⌜ r ≡ toSigned 63 x ⌝ }
 {
-    let w = whole_part(x);
-    if x < 0.0 {
-        if w < 0x8000_0000_0000_0000 {
-            0 - (w as i64)
+    if x < 9223372036854775808.0 {
+        if x >= -9223372036854775808.0 {
+            std::num::truncating_f64_to_i64(x)
         } else {
             -0x7fff_ffff_ffff_ffff - 1
         }
-    } else if w < 0x8000_0000_0000_0000 {
-        w as i64
+    } else if x != x {
+        0
     } else {
         0x7fff_ffff_ffff_ffff
     }

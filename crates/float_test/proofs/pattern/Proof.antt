@@ -1,7 +1,6 @@
 -- `float_test::pattern` is safe: i is at most 16. Assumes nothing.
 use borrow.Author.Needs.{needs}
 use Prim.Native.Nat.{_≤_, _-_}
-use native.Mathlib.Omega.{arith}
 use Rattle.float_test.proofs.pattern.Statement.{statement}
 use Rattle.float_test.proofs.pattern.Tie as tie
 

@@ -1,7 +1,6 @@
 -- `float_test::write` is safe: i is at most 16. Assumes nothing.
 use borrow.Author.Needs.{needs}
 use Prim.Native.Nat.{_≤_, _-_}
-use native.Mathlib.Omega.{arith}
 use mathlib.Core.Path.{_≡_}
 use lib.ListN.{length}
 use Rattle.float_test.proofs.write.Statement.{statement}
