@@ -9,15 +9,16 @@ use mathlib.Core.Bool.{Bool, true, false, cond, _&&_}
 use lib.IntN.{ℤ, pos, negsuc, natAbs}
 use lib.Dec.{T, ltb, leb, eqb, ltb→lt}
 use lib.Pow.{pow-pos, pow-add}
-use lib.Ieee.{Float, nan, inf, fin, binary64, up, down, fits, size, nearest, odd, units, round, ofInt}
-use lib.Ieee.Fits.{down-pos, and-l, and-r, round-fits, nan-fits, inf-fits}
+use lib.Ieee.{Float, nan, inf, fin, binary64, up, down, fits, size, nearest, odd, units, round, ofInt, ofBits, add, rem, lt}
+use lib.Ieee.Fits.{down-pos, and-l, and-r, round-fits, nan-fits, inf-fits, cond-fits, add-fits, rem-fits, ofInt-fits}
+use lib.Ieee.Bits.{ofBits-fits}
 use lib.Ieee.Exact.{HasValue, round-exact}
 use lib.Ieee.Back.{round-whole, whole-unique}
 use lib.Ieee.Nearest.{div-same}
 use lib.Ieee.Scale.{finite}
 use Rattle.ecma262.specs.Whole.{floorDiv}
 use Rattle.float.specs.Whole.{signed, IsWhole, floorZ, truncZ}
-use Rattle.float.specs.Rounding.{truncF, floorF, withSign, isNegative, absF, copysignF}
+use Rattle.float.specs.Rounding.{truncF, floorF, withSign, isNegative, absF, copysignF, remEuclidF, toIntegerOrInfinity}
 use Rattle.float.proofs.Fractions as frac
 use Rattle.float.proofs.Fractions.{ceil-same, floor-signed, floor-same, cut}
 
@@ -176,6 +177,17 @@ abs-fits x h = sign-fits false x h
 pub copysign-fits : (x y : Float) → T (fits binary64 x) → T (fits binary64 (copysignF x y))
 unfolding copysignF
 copysign-fits x y h = sign-fits (isNegative y) x h
+
+pub rem-euclid-fits : (x y : Float) → T (fits binary64 x) → T (fits binary64 (remEuclidF x y))
+unfolding remEuclidF
+rem-euclid-fits x y h =
+    cond-fits binary64 (lt (rem binary64 x y) (ofBits binary64 0)) (add binary64 (rem binary64 x y) (absF y)) (rem binary64 x y) (add-fits binary64 (rem binary64 x y) (absF y)) (rem-fits binary64 x y h)
+
+pub integer-fits : (x : Float) → T (fits binary64 (toIntegerOrInfinity x))
+unfolding toIntegerOrInfinity
+integer-fits nan = ofBits-fits binary64 0
+integer-fits (inf s) = inf-fits binary64 s
+integer-fits (fin s m e) = ofInt-fits binary64 (truncZ (fin s m e))
 
 -- ---- of a whole number
 pub value-finite : (x : Float) (s : Bool) (a c : ℕ) → HasValue x s a c → T (finite x)
