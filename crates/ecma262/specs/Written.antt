@@ -29,11 +29,11 @@ pub record WrittenAs (f : Fields) (w : List ℕ) : Type 0 where
   pub second-upto : f .second ≤ 59
   pub ms-upto : f .ms ≤ 999
   pub text :
-    w
-    ≡ yearText
-    ++ (ascii "-" ++ digits 2 month ++ ascii "-" ++ digits 2 (f .date)
-    ++ ascii "T" ++ digits 2 (f .hour) ++ ascii ":" ++ digits 2 (f .minute) ++ ascii ":" ++ digits 2 (f .second)
-    ++ ascii "." ++ digits 3 (f .ms) ++ ascii "Z")
+      w
+      ≡ yearText
+      ++ (ascii "-" ++ digits 2 month ++ ascii "-" ++ digits 2 (f .date)
+      ++ ascii "T" ++ digits 2 (f .hour) ++ ascii ":" ++ digits 2 (f .minute) ++ ascii ":" ++ digits 2 (f .second)
+      ++ ascii "." ++ digits 3 (f .ms) ++ ascii "Z")
 
 -- a text of the written form
 pub record Written (w : List ℕ) : Type 0 where
