@@ -8,7 +8,7 @@ use Prim.Native.Char.{code}
 use Prim.Native.String.{String, [] as none, _∷_ as _then_}
 use lib.Dec.{ltb}
 use lib.ListN.{getD}
-use lib.IntN.{ℤ, pos, negsuc}
+use lib.IntN.{ℤ, pos, negsuc, natAbs}
 use Rattle.ecma262.specs.Digits.{digits}
 use Rattle.ecma262.specs.Date.{Fields, fieldsOf, WeekDay, HourFromTime, MinFromTime}
 
@@ -66,11 +66,14 @@ monthName month = getD monthNames month []
 unfoldable pub paddedYear : ℕ → List ℕ
 paddedYear y = cond (ltb y 10000) (digits 4 y) (cond (ltb y 100000) (digits 5 y) (digits 6 y))
 
--- "If yv is +0 or yv > +0, let yearSign be the empty String; otherwise, let yearSign be "-"." "Let paddedYear be
--- ToZeroPaddedDecimalString(abs(yv), 4)." yearSign and paddedYear
-unfoldable pub signedYear : ℤ → List ℕ
-signedYear (pos y) = paddedYear y
-signedYear (negsuc y) = ascii "-" ++ paddedYear (suc y)
+-- "If yv is +0 or yv > +0, let yearSign be the empty String; otherwise, let yearSign be "-"."
+unfoldable pub yearSign : ℤ → List ℕ
+yearSign (pos y) = []
+yearSign (negsuc y) = ascii "-"
+
+-- yearSign and paddedYear: "Let paddedYear be ToZeroPaddedDecimalString(abs(yv), 4)."
+abbrev pub signedYear : ℤ → List ℕ
+signedYear y = yearSign y ++ paddedYear (natAbs y)
 
 -- TimeString(tv): hour, ":", minute, ":", second, the code unit 0x0020 (SPACE), and "GMT"
 abbrev pub timeStringOf : Fields → List ℕ
@@ -81,15 +84,17 @@ abbrev pub dateStringOf : ℕ → Fields → List ℕ
 dateStringOf weekday f =
     dayName weekday ++ ascii " " ++ monthName (f .month) ++ ascii " " ++ digits 2 (f .date) ++ ascii " " ++ signedYear (f .year)
 
--- HourFromTime(absOffset) and MinFromTime(absOffset), where absOffset is s seconds
-abbrev pub offsetClock : ℕ → List ℕ
-offsetClock s = digits 2 (HourFromTime (pos (1000 * s))) ++ digits 2 (MinFromTime (pos (1000 * s)))
+-- "If offset is +0 or offset > +0, then let offsetSign be "+" and let absOffset be offset. Else, let offsetSign be "-" and let absOffset be
+-- -offset."
+unfoldable pub offsetSign : ℤ → List ℕ
+offsetSign (pos s) = ascii "+"
+offsetSign (negsuc s) = ascii "-"
 
--- TimeZoneString(tv) from the offset in seconds, with no time zone name: "If offset is +0 or offset > +0, let offsetSign be "+" and let
--- absOffset be offset. Else, let offsetSign be "-" and let absOffset be -offset." So "an offset of -30 s prints -0000".
-unfoldable pub timeZoneString : ℤ → List ℕ
-timeZoneString (pos s) = ascii "+" ++ offsetClock s
-timeZoneString (negsuc s) = ascii "-" ++ offsetClock (suc s)
+-- TimeZoneString(tv) from the offset in seconds, with no time zone name: offsetSign, HourFromTime(absOffset) and MinFromTime(absOffset).
+-- Seconds are cut off: "An offset of -30 s prints -0000."
+abbrev pub timeZoneString : ℤ → List ℕ
+timeZoneString offset =
+    offsetSign offset ++ digits 2 (HourFromTime (pos (1000 * natAbs offset))) ++ digits 2 (MinFromTime (pos (1000 * natAbs offset)))
 
 -- ---- the UTC and the local text
 
