@@ -25,16 +25,21 @@ unfoldable pub isoYear : ℤ → List ℕ
 isoYear (pos y) = cond (ltb y 10000) (digits 4 y) (ascii "+" ++ digits 6 y)
 isoYear (negsuc y) = ascii "-" ++ digits 6 (suc y)
 
--- what follows the year: `-MM-DDTHH:mm:ss.sssZ`, the month from 01
-abbrev pub isoRest : Fields → List ℕ
-isoRest f =
-    ascii "-" ++ digits 2 (f .month + 1) ++ ascii "-" ++ digits 2 (f .date)
-    ++ ascii "T" ++ digits 2 (f .hour) ++ ascii ":" ++ digits 2 (f .minute) ++ ascii ":" ++ digits 2 (f .second)
-    ++ ascii "." ++ digits 3 (f .ms) ++ ascii "Z"
+-- `-MM-DD`, "MM is the month of the year as two decimal digits from 01 (January) to 12 (December)", "DD is the day of the month ... from 01"
+abbrev pub isoDate : Fields → List ℕ
+isoDate f = ascii "-" ++ digits 2 (f .month + 1) ++ ascii "-" ++ digits 2 (f .date)
+
+-- `HH:mm:ss`
+abbrev pub clockOf : Fields → List ℕ
+clockOf f = digits 2 (f .hour) ++ ascii ":" ++ digits 2 (f .minute) ++ ascii ":" ++ digits 2 (f .second)
+
+-- `THH:mm:ss.sssZ`
+abbrev pub isoTime : Fields → List ℕ
+isoTime f = ascii "T" ++ clockOf f ++ ascii "." ++ digits 3 (f .ms) ++ ascii "Z"
 
 -- `YYYY-MM-DDTHH:mm:ss.sssZ`
 abbrev pub isoOf : Fields → List ℕ
-isoOf f = isoYear (f .year) ++ isoRest f
+isoOf f = isoYear (f .year) ++ isoDate f ++ isoTime f
 
 -- Date.prototype.toISOString: tv "in the Date Time String Format on the UTC time scale, including all format elements and the UTC offset
 -- representation "Z""
@@ -77,7 +82,7 @@ signedYear y = yearSign y ++ paddedYear (natAbs y)
 
 -- TimeString(tv): hour, ":", minute, ":", second, the code unit 0x0020 (SPACE), and "GMT"
 abbrev pub timeStringOf : Fields → List ℕ
-timeStringOf f = digits 2 (f .hour) ++ ascii ":" ++ digits 2 (f .minute) ++ ascii ":" ++ digits 2 (f .second) ++ ascii " GMT"
+timeStringOf f = clockOf f ++ ascii " GMT"
 
 -- DateString(tv): weekday, SPACE, month, SPACE, day, SPACE, yearSign, and paddedYear
 abbrev pub dateStringOf : ℕ → Fields → List ℕ

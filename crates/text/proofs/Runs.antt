@@ -21,6 +21,10 @@ sets-join (a ∷ u) v l i = rw (add-suc, ← suc-add i (length u)) (sets-join u 
 pub puts-as : {a b : List ℕ} {i n : ℕ} {u w : List ℕ} → Puts a i u n b → u ≡ w → Puts a i w n b
 puts-as {n = n} h e = record { stored = rw (← e) (h .stored); long = rw (← e) (h .long) }
 
+-- a run by another name, with that name's length
+pub puts-own : {a b : List ℕ} {i n : ℕ} {u w : List ℕ} → Puts a i u n b → u ≡ w → Puts a i w (length w) b
+puts-own h e = record { stored = rw (← e) (h .stored); long = refl }
+
 -- one run behind the other
 pub puts-then : {a b c : List ℕ} {i j m n : ℕ} {u v : List ℕ} → Puts a i u m b → Puts b j v n c → j ≡ i + m → Puts a i (u ++ v) (m + n) c
 puts-then {a} {i = i} {u = u} {v = v} h g e =
@@ -35,9 +39,9 @@ module _ {w out last : List ℕ} {n : ℕ} where
       let g : length out < length w = omega arith in
       record { answer = simp (lt-leb _ _ g); output = simp (lt-leb _ _ g) k }
 
-  pub prints-whole : Puts out 0 w n last → n ≤ length out → Prints w out last (Length n)
-  prints-whole p h =
-      let e : length w ≡ n = p .long in
+  pub prints-whole : {m : ℕ} → Puts out 0 w m last → m ≡ n → n ≤ length out → Prints w out last (Length n)
+  prints-whole {m} p k h =
+      let e : length w ≡ n = p .long ∙ k in
       let g : length w ≤ length out = omega arith in
       let s : 0 + length w ≤ length out = omega arith in
       record { answer = simp (le-leb _ _ g) (ap Length (sym e)); output = simp (le-leb _ _ g) (p .stored ∙ sets-eq w out 0 s ∙ rw zero-add) }
