@@ -8,6 +8,7 @@ use lib.Signed.{mag, nonNeg, ltZ, _≤ℤ_, _<ℤ_}
 use mathlib.Core.Bool.{true, false}
 use mathlib.Core.List.{List}
 use lib.ListN.{length}
+use Rattle.ecma262.specs.Texts.{timeZoneString}
 use Rattle.text.specs.Output.{Puts}
 use mir.Syntax.{w32}
 use mir.Val.{Fits, SFits, toZ, ofZ, hbits, bits}
@@ -46,9 +47,15 @@ abs-fits (negsuc n) f = omega (arith, f .sfits)
 pub abs-of : {x : ℤ} {r : ℕ} → SFits w32 x → r ≡ natAbs (toZ w32 (ofZ w32 x)) → r ≡ natAbs x
 abs-of f e = simp toZ-ofZ at e
 
--- what a signed field or argument is read back as, where it is a year
-pub at-number : (P : ℤ → Type 0) {x : ℤ} → natAbs x ≤ 999999 → P (toZ w32 (ofZ w32 x)) → P x
-at-number P {x} h p = subst P (toZ-ofZ (fits32 x (omega (arith, abs-in x h)))) p
+-- what is said of a number as it is read back from its bits, of a number that fits and of a year
+pub at-fitting : (P : ℤ → Type 0) {x : ℤ} → SFits w32 x → P (toZ w32 (ofZ w32 x)) → P x
+at-fitting P f p = subst P (toZ-ofZ f) p
 
-pub puts-number : (w : ℤ → List ℕ) {x : ℤ} {i : ℕ} {a b : List ℕ} → natAbs x ≤ 999999 → Puts a i (w (toZ w32 (ofZ w32 x))) (length (w (toZ w32 (ofZ w32 x)))) b → Puts a i (w x) (length (w x)) b
-puts-number w {x} {i} {a} {b} h p = at-number (λ z. Puts a i (w z) (length (w z)) b) h p
+pub year-fits : (x : ℤ) → natAbs x ≤ 999999 → SFits w32 x
+year-fits x h = fits32 x (omega (arith, abs-in x h))
+
+pub puts-fitting : (w : ℤ → List ℕ) {x : ℤ} {i : ℕ} {a b : List ℕ} → SFits w32 x → Puts a i (w (toZ w32 (ofZ w32 x))) (length (w (toZ w32 (ofZ w32 x)))) b → Puts a i (w x) (length (w x)) b
+puts-fitting w {x} {i} {a} {b} f p = at-fitting (λ z. Puts a i (w z) (length (w z)) b) f p
+
+pub zone-put : {x : ℤ} {i : ℕ} {a b : List ℕ} → SFits w32 x → Puts a i (timeZoneString (toZ w32 (ofZ w32 x))) 5 b → Puts a i (timeZoneString x) 5 b
+zone-put {x} {i} {a} {b} f p = at-fitting (λ z. Puts a i (timeZoneString z) 5 b) f p

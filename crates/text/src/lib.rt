@@ -5,9 +5,9 @@ ghost use Prim.Native.Nat.{_+_, _≤_, _<_};
 ghost use lib.ListN.{length};
 ghost use lib.IntN.{natAbs};
 ghost use Rattle.ecma262.specs.Digits.{digits};
-ghost use Rattle.ecma262.specs.Texts.{isoYear, isoDate, isoTime, isoOf, clockOf, dayName, monthName, signedYear, timeStringOf, dateStringOf, timeZoneString, utcOf, localOf, invalidDate};
+ghost use Rattle.ecma262.specs.Texts.{ascii, isoYear, isoDate, isoTime, isoOf, clockOf, dayName, monthName, paddedYear, yearSign, signedYear, timeStringOf, offsetSign, timeZoneString, utcOf, localOf, invalidDate};
 ghost use Rattle.text.specs.Output.{Puts, Prints};
-ghost use Rattle.text.specs.Print.{wholeOf, Printable};
+ghost use Rattle.text.specs.Print.{wholeOf, Printable, utcHead, localHead};
 
 // The number of bytes printed, or that the output is shorter than the text. Then it is as it was.
 pub enum Printed {
@@ -218,4 +218,179 @@ pub fn iso_string(f: DateFields, output: &mut [u8]) -> Printed
     put_iso_date(f, output, n);
     put_iso_time(f, output, n + 6);
     Printed::Length(n + 20)
+}
+
+// ---- the year of the UTC and the local text
+
+fn padded_length(y: u32) -> usize
+    ensures { λ r. ⌜ (length (paddedYear y) ≡ r) × (4 ≤ r) × (r ≤ 6) ⌝ }
+{
+    if y < 10000 {
+        return 4;
+    }
+    if y < 100000 { 5 } else { 6 }
+}
+
+// At least four digits.
+fn put_padded_year(y: u32, output: &mut [u8], at: usize)
+    requires { ⌜ (y < 1000000) × (at + 6 ≤ length (now output)) ⌝ }
+    ensures { λ _. ⌜ Puts (now (output .entry)) at (paddedYear y) (length (paddedYear y)) (now (output .exit)) ⌝ }
+{
+    if y < 10000 {
+        pad_four(y, output, at);
+    } else {
+        if y < 100000 {
+            pad_five(y, output, at);
+        } else {
+            pad_six(y, output, at);
+        }
+    }
+}
+
+fn signed_length(year: i32) -> usize
+    ensures { λ r. ⌜ (length (signedYear year) ≡ r) × (4 ≤ r) × (r ≤ 7) ⌝ }
+{
+    let n = padded_length(unsigned_abs(year));
+    if year < 0 { n + 1 } else { n }
+}
+
+// `-` before a negative year, nothing before another. The place behind it.
+fn put_year_sign(year: i32, output: &mut [u8], at: usize) -> usize
+    requires { ⌜ at < length (now output) ⌝ }
+    ensures { λ r. ⌜ (r ≡ at + length (yearSign year)) × (r ≤ at + 1) × Puts (now (output .entry)) at (yearSign year) (length (yearSign year)) (now (output .exit)) ⌝ }
+{
+    if year < 0 {
+        put(b'-', output, at);
+        return at + 1;
+    }
+    at
+}
+
+fn put_signed_year(year: i32, output: &mut [u8], at: usize)
+    requires { ⌜ (natAbs year ≤ 999999) × (at + 7 ≤ length (now output)) ⌝ }
+    ensures { λ _. ⌜ Puts (now (output .entry)) at (signedYear year) (length (signedYear year)) (now (output .exit)) ⌝ }
+{
+    let place = put_year_sign(year, output, at);
+    put_padded_year(unsigned_abs(year), output, place);
+}
+
+// ---- DateString, TimeString, TimeZoneString
+
+fn put_gmt(output: &mut [u8], at: usize)
+    requires { ⌜ at + 4 ≤ length (now output) ⌝ }
+    ensures { λ _. ⌜ Puts (now (output .entry)) at (ascii " GMT") 4 (now (output .exit)) ⌝ }
+{
+    put(b' ', output, at);
+    put_name(*b"GMT", output, at + 1);
+}
+
+// `HH:mm:ss GMT`.
+pub fn time_string(f: DateFields, output: &mut [u8], at: usize)
+    requires { ⌜ Printable f × (at + 12 ≤ length (now output)) ⌝ }
+    ensures { λ _. ⌜ Puts (now (output .entry)) at (timeStringOf (wholeOf f)) 12 (now (output .exit)) ⌝ }
+{
+    put_clock(f, output, at);
+    put_gmt(output, at + 8);
+}
+
+fn offset_sign(offset: i32) -> u8
+    ensures { λ r. ⌜ r ∷ [] ≡ offsetSign offset ⌝ }
+{
+    if offset < 0 { b'-' } else { b'+' }
+}
+
+// The suffix, from an offset in seconds. Its seconds are cut off.
+pub fn time_zone_string(offset: i32, output: &mut [u8], at: usize)
+    requires { ⌜ (natAbs offset ≤ 86399) × (at + 5 ≤ length (now output)) ⌝ }
+    ensures { λ _. ⌜ Puts (now (output .entry)) at (timeZoneString offset) 5 (now (output .exit)) ⌝ }
+{
+    let seconds = unsigned_abs(offset);
+    put(offset_sign(offset), output, at);
+    pad_two((seconds / 3600) as u8, output, at + 1);
+    pad_two((seconds / 60 % 60) as u8, output, at + 3);
+}
+
+// ---- the UTC and the local text
+
+// `Www, DD Mmm `.
+fn put_utc_head(f: DateFields, output: &mut [u8])
+    requires { ⌜ Printable f × (12 ≤ length (now output)) ⌝ }
+    ensures { λ _. ⌜ Puts (now (output .entry)) 0 (utcHead (f .weekday) (wholeOf f)) 12 (now (output .exit)) ⌝ }
+{
+    put_name(day_name(f.weekday), output, 0);
+    put(b',', output, 3);
+    put_two(b' ', f.date, output, 4);
+    put(b' ', output, 7);
+    put_name(month_name(f.month), output, 8);
+    put(b' ', output, 11);
+}
+
+// The text of `to_utc_string`.
+pub fn utc_string(f: DateFields, output: &mut [u8]) -> Printed
+    requires { ⌜ Printable f ⌝ }
+    ensures { λ r. ⌜ Prints (utcOf (f .weekday) (wholeOf f)) (now (output .entry)) (now (output .exit)) r ⌝ }
+{
+    let n = signed_length(f.year);
+    if output.len() < n + 25 {
+        return Printed::NoRoom;
+    }
+    put_utc_head(f, output);
+    put_signed_year(f.year, output, 12);
+    put(b' ', output, n + 12);
+    time_string(f, output, n + 13);
+    Printed::Length(n + 25)
+}
+
+// `Www Mmm DD `.
+fn put_local_head(f: DateFields, output: &mut [u8])
+    requires { ⌜ Printable f × (11 ≤ length (now output)) ⌝ }
+    ensures { λ _. ⌜ Puts (now (output .entry)) 0 (localHead (f .weekday) (wholeOf f)) 11 (now (output .exit)) ⌝ }
+{
+    put_name(day_name(f.weekday), output, 0);
+    put(b' ', output, 3);
+    put_name(month_name(f.month), output, 4);
+    put_two(b' ', f.date, output, 7);
+    put(b' ', output, 10);
+}
+
+// The text of `to_date_string_t`: the fields are those of the local time.
+pub fn local_string(f: DateFields, offset: i32, output: &mut [u8]) -> Printed
+    requires { ⌜ Printable f × (natAbs offset ≤ 86399) ⌝ }
+    ensures { λ r. ⌜ Prints (localOf (f .weekday) (wholeOf f) offset) (now (output .entry)) (now (output .exit)) r ⌝ }
+{
+    let n = signed_length(f.year);
+    if output.len() < n + 29 {
+        return Printed::NoRoom;
+    }
+    put_local_head(f, output);
+    put_signed_year(f.year, output, 11);
+    put(b' ', output, n + 11);
+    time_string(f, output, n + 12);
+    time_zone_string(offset, output, n + 24);
+    Printed::Length(n + 29)
+}
+
+// ---- a text as it stands
+
+// The one way of putting a text that is at hand into a lent output.
+pub fn put_text(text: &[u8], output: &mut [u8]) -> Printed
+    ensures { λ r. ⌜ Prints (now (text .entry)) (now (output .entry)) (now (output .exit)) r ⌝ }
+{
+    let n = text.len();
+    if output.len() < n {
+        return Printed::NoRoom;
+    }
+    let mut i = 0;
+    while i < n {
+        output[i] = text[i];
+        i += 1;
+    }
+    Printed::Length(n)
+}
+
+// `Invalid Date`.
+pub fn invalid_date(output: &mut [u8]) -> Printed
+    ensures { λ r. ⌜ Prints invalidDate (now (output .entry)) (now (output .exit)) r ⌝ }
+{
+    put_text(b"Invalid Date", output)
 }

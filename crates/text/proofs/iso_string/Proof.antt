@@ -1,5 +1,5 @@
 use borrow.Author.Needs.{needs}
-use Rattle.text.proofs.Sign.{at-number, puts-number}
+use Rattle.text.proofs.Sign.{at-fitting, year-fits, puts-fitting}
 use Rattle.ecma262.specs.Texts.{isoYear}
 use lib.ListN.{length}
 use mathlib.Core.Path.{_≡_, refl, ap, _∙_}
@@ -12,7 +12,7 @@ use Rattle.text.proofs.iso_string.Statement.{statement}
 use Rattle.text.proofs.iso_string.Tie as tie
 
 year-length : (b : tie.After-iso-year-length) → length (isoYear (b .before .before .before .args .f .year)) ≡ b .iso-year-length .result
-year-length b = at-number (λ y. length (isoYear y) ≡ b .iso-year-length .result) (b .before .before .before .pre .year-ok) (b .iso-year-length .ensures .0)
+year-length b = at-fitting (λ y. length (isoYear y) ≡ b .iso-year-length .result) (year-fits _ (b .before .before .before .pre .year-ok)) (b .iso-year-length .ensures .0)
 
 iso-year-length-requires : tie.Need-iso-year-length-requires
 iso-year-length-requires c κs = search needs
@@ -21,7 +21,7 @@ add-if1 : tie.Need-add-if1
 add-if1 c = search needs
 
 returns : tie.Need-returns
-returns c = 
+returns c =
     let b = c .before in
     let s = b .before .before .before in
     prints-none (length-iso (wholeOf (s .args .f)) ∙ ap (λ n. n + 20) (year-length b)) (c .if1 .taken) refl
@@ -45,7 +45,7 @@ same-length : tie.Need-same-length
 same-length c = search needs
 
 returns-2 : tie.Need-returns-2
-returns-2 c = 
+returns-2 c =
     let r = c .before .before in
     let q = r .before .before .before .before in
     let p = q .before .before .before .before in
@@ -53,7 +53,7 @@ returns-2 c =
     let s = b .before .before .before in
     prints-whole
     (puts-then
-    (puts-then (puts-number isoYear (s .pre .year-ok) (p .put-iso-year .ensures)) (q .put-iso-date .ensures) (omega (arith, year-length b)))
+    (puts-then (puts-fitting isoYear (year-fits _ (s .pre .year-ok)) (p .put-iso-year .ensures)) (q .put-iso-date .ensures) (omega (arith, year-length b)))
     (r .put-iso-time .ensures) (omega (arith, year-length b))) (omega (arith, year-length b)) (omega arith)
 
 pub iso-string-spec : {M : Type 1} → statement M

@@ -14,13 +14,13 @@ unsigned-abs-requires : tie.Need-unsigned-abs-requires
 unsigned-abs-requires c κs = search needs
 
 returns-2 : tie.Need-returns-2
-returns-2 c = 
+returns-2 c =
     let u = c .before in
     let s = u .before .before in
     (ap length (sym (iso-four (s .args .year) (from-zero (s .fits .year) (u .before .if1 .left)) (omega (arith, abs-of (s .fits .year) (u .unsigned-abs .ensures))))), search needs)
 
 returns-3 : tie.Need-returns-3
-returns-3 c = 
+returns-3 c =
     let u = c .before in
     let s = u .before .before in
     (ap length (sym (iso-above (s .args .year) (from-zero (s .fits .year) (u .before .if1 .left)) (omega (arith, abs-of (s .fits .year) (u .unsigned-abs .ensures))))), search needs)

@@ -20,7 +20,7 @@ same-length : tie.Need-same-length
 same-length c = search needs
 
 returns : tie.Need-returns
-returns c = 
+returns c =
     let q = c .before .before in
     let p = q .before .before .before .before in
     puts-then (p .put-two .ensures) (q .put-two2 .ensures) refl

@@ -35,7 +35,7 @@ same-length : tie.Need-same-length
 same-length c = search needs
 
 returns : tie.Need-returns
-returns c = 
+returns c =
     let u = c .before .before in
     let s = u .before .before .before .before in
     let r = s .before .before .before .before in

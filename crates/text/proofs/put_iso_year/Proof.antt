@@ -14,7 +14,7 @@ put-requires : tie.Need-put-requires
 put-requires c κs = search needs
 
 pad-six-requires : tie.Need-pad-six-requires
-pad-six-requires c κs = 
+pad-six-requires c κs =
     let u = c .before .before .before .before .before .before in
     omega (arith, abs-of (u .before .before .fits .year) (u .unsigned-abs .ensures), u .before .before .pre)
 
@@ -25,7 +25,7 @@ put-requires-2 : tie.Need-put-requires-2
 put-requires-2 c κs = search needs
 
 pad-six-requires-2 : tie.Need-pad-six-requires-2
-pad-six-requires-2 c κs = 
+pad-six-requires-2 c κs =
     let u = c .before .before .before .before .before .before .before in
     omega (arith, abs-of (u .before .before .fits .year) (u .unsigned-abs .ensures), u .before .before .pre)
 
@@ -33,7 +33,7 @@ same-length : tie.Need-same-length
 same-length c = search needs
 
 returns : tie.Need-returns
-returns c = 
+returns c =
     let q = c .before .before in
     let p = q .before .before .before .before in
     let d = p .before .before in
@@ -46,7 +46,7 @@ same-length-2 : tie.Need-same-length-2
 same-length-2 c = search needs
 
 returns-2 : tie.Need-returns-2
-returns-2 c = 
+returns-2 c =
     let p = c .before .before in
     let d = p .before .before in
     let e = d .before in
@@ -59,7 +59,7 @@ same-length-3 : tie.Need-same-length-3
 same-length-3 c = search needs
 
 returns-3 : tie.Need-returns-3
-returns-3 c = 
+returns-3 c =
     let q = c .before .before in
     let p = q .before .before .before .before in
     let d = p .before .before in

@@ -17,7 +17,7 @@ same-length : tie.Need-same-length
 same-length c = search needs
 
 returns : tie.Need-returns
-returns c = 
+returns c =
     let q = c .before .before in
     let p = q .before .before .before .before in
     puts-then (p .put .ensures) (q .pad-two .ensures) refl
