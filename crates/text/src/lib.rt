@@ -189,7 +189,8 @@ fn put_iso_date(f: DateFields, output: &mut [u8], at: usize)
     requires { ⌜ Printable f × (at + 6 ≤ length (now output)) ⌝ }
     ensures { λ _. ⌜ Puts (now (output .entry)) at (isoDate (wholeOf f)) 6 (now (output .exit)) ⌝ }
 {
-    put_two(b'-', f.month + 1, output, at);
+    let month = f.month + 1;
+    put_two(b'-', month, output, at);
     put_two(b'-', f.date, output, at + 3);
 }
 
@@ -211,13 +212,14 @@ pub fn iso_string(f: DateFields, output: &mut [u8]) -> Printed
     ensures { λ r. ⌜ Prints (isoOf (wholeOf f)) (now (output .entry)) (now (output .exit)) r ⌝ }
 {
     let n = iso_year_length(f.year);
-    if output.len() < n + 20 {
+    let length = n + 20;
+    if output.len() < length {
         return Printed::NoRoom;
     }
     put_iso_year(f.year, output);
     put_iso_date(f, output, n);
     put_iso_time(f, output, n + 6);
-    Printed::Length(n + 20)
+    Printed::Length(length)
 }
 
 // ---- the year of the UTC and the local text
@@ -331,14 +333,15 @@ pub fn utc_string(f: DateFields, output: &mut [u8]) -> Printed
     ensures { λ r. ⌜ Prints (utcOf (f .weekday) (wholeOf f)) (now (output .entry)) (now (output .exit)) r ⌝ }
 {
     let n = signed_length(f.year);
-    if output.len() < n + 25 {
+    let length = n + 25;
+    if output.len() < length {
         return Printed::NoRoom;
     }
     put_utc_head(f, output);
     put_signed_year(f.year, output, 12);
     put(b' ', output, n + 12);
     time_string(f, output, n + 13);
-    Printed::Length(n + 25)
+    Printed::Length(length)
 }
 
 // `Www Mmm DD `.
@@ -359,7 +362,8 @@ pub fn local_string(f: DateFields, offset: i32, output: &mut [u8]) -> Printed
     ensures { λ r. ⌜ Prints (localOf (f .weekday) (wholeOf f) offset) (now (output .entry)) (now (output .exit)) r ⌝ }
 {
     let n = signed_length(f.year);
-    if output.len() < n + 29 {
+    let length = n + 29;
+    if output.len() < length {
         return Printed::NoRoom;
     }
     put_local_head(f, output);
@@ -367,7 +371,7 @@ pub fn local_string(f: DateFields, offset: i32, output: &mut [u8]) -> Printed
     put(b' ', output, n + 11);
     time_string(f, output, n + 12);
     time_zone_string(offset, output, n + 24);
-    Printed::Length(n + 29)
+    Printed::Length(length)
 }
 
 // ---- a text as it stands

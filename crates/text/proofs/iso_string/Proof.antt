@@ -1,13 +1,14 @@
-use borrow.Author.Needs.{needs}
-use Rattle.text.proofs.Sign.{at-fitting, year-fits, puts-fitting}
-use Rattle.ecma262.specs.Texts.{isoYear}
-use lib.ListN.{length}
+-- `text::iso_string` meets its contract: year, date and time stand one behind the other. Assumes nothing.
 use mathlib.Core.Path.{_≡_, refl, ap, _∙_}
-use Rattle.text.proofs.Runs.{puts-then, prints-none, prints-whole}
-use Rattle.text.specs.Print.{wholeOf}
-use Rattle.ecma262.proofs.Texts.{length-iso}
-use native.Mathlib.Omega.{arith}
 use Prim.Native.Nat.{_+_}
+use native.Mathlib.Omega.{arith}
+use lib.ListN.{length}
+use borrow.Author.Needs.{needs}
+use Rattle.ecma262.proofs.Texts.{length-iso}
+use Rattle.ecma262.specs.Texts.{isoYear}
+use Rattle.text.specs.Print.{wholeOf}
+use Rattle.text.proofs.Runs.{puts-then, prints-none, prints-whole}
+use Rattle.text.proofs.Sign.{at-fitting, year-fits, puts-fitting}
 use Rattle.text.proofs.iso_string.Statement.{statement}
 use Rattle.text.proofs.iso_string.Tie as tie
 
@@ -17,8 +18,8 @@ year-length b = at-fitting (λ y. length (isoYear y) ≡ b .iso-year-length .res
 iso-year-length-requires : tie.Need-iso-year-length-requires
 iso-year-length-requires c κs = search needs
 
-add-if1 : tie.Need-add-if1
-add-if1 c = search needs
+add-length : tie.Need-add-length
+add-length c = search needs
 
 returns : tie.Need-returns
 returns c =
@@ -37,9 +38,6 @@ add-put-iso-time c = search needs
 
 put-iso-time-requires : tie.Need-put-iso-time-requires
 put-iso-time-requires c κs = search needs
-
-add-t5 : tie.Need-add-t5
-add-t5 c = search needs
 
 same-length : tie.Need-same-length
 same-length c = search needs
@@ -61,12 +59,11 @@ iso-string-spec =
     tie.close
     (tie.spec
     iso-year-length-requires
-    add-if1
+    add-length
     returns
     put-iso-year-requires
     put-iso-date-requires
     add-put-iso-time
     put-iso-time-requires
-    add-t5
     same-length
     returns-2)

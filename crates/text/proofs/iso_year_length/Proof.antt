@@ -1,9 +1,10 @@
-use borrow.Author.Needs.{needs}
-use Rattle.text.proofs.Sign.{below-zero, from-zero, abs-of}
-use Rattle.ecma262.proofs.Texts.{iso-below, iso-four, iso-above}
-use lib.ListN.{length}
-use native.Mathlib.Omega.{arith}
+-- `text::iso_year_length` meets its contract: the three cases of the ISO year. Assumes nothing.
 use mathlib.Core.Path.{sym, ap}
+use native.Mathlib.Omega.{arith}
+use lib.ListN.{length}
+use borrow.Author.Needs.{needs}
+use Rattle.ecma262.proofs.Texts.{iso-below, iso-four, iso-above}
+use Rattle.text.proofs.Sign.{below-zero, from-zero, abs-of}
 use Rattle.text.proofs.iso_year_length.Statement.{statement}
 use Rattle.text.proofs.iso_year_length.Tie as tie
 

@@ -1,14 +1,15 @@
-use borrow.Author.Needs.{needs}
-use Rattle.ecma262.proofs.Texts.{length-local}
-use Rattle.text.proofs.Sign.{at-fitting, year-fits, puts-fitting, zone-put}
-use Rattle.text.proofs.Runs.{puts-as, puts-then, prints-none, prints-whole}
-use Rattle.text.specs.Print.{wholeOf}
-use Rattle.ecma262.specs.Texts.{signedYear}
-use lib.ListN.{length}
-use native.Mathlib.Omega.{arith}
-use Prim.Native.Nat.{_+_}
+-- `text::local_string` meets its contract: head, year, space, time and suffix stand one behind the other. Assumes nothing.
 use mathlib.Core.List.{append-assoc}
 use mathlib.Core.Path.{_≡_, refl, ap, _∙_}
+use Prim.Native.Nat.{_+_}
+use native.Mathlib.Omega.{arith}
+use lib.ListN.{length}
+use borrow.Author.Needs.{needs}
+use Rattle.ecma262.proofs.Texts.{length-local}
+use Rattle.ecma262.specs.Texts.{signedYear}
+use Rattle.text.specs.Print.{wholeOf}
+use Rattle.text.proofs.Runs.{puts-as, puts-then, prints-none, prints-whole}
+use Rattle.text.proofs.Sign.{at-fitting, year-fits, puts-fitting, zone-put}
 use Rattle.text.proofs.local_string.Statement.{statement}
 use Rattle.text.proofs.local_string.Tie as tie
 
@@ -18,8 +19,8 @@ year-length b = at-fitting (λ y. length (signedYear y) ≡ b .signed-length .re
 signed-length-requires : tie.Need-signed-length-requires
 signed-length-requires c κs = search needs
 
-add-if1 : tie.Need-add-if1
-add-if1 c = search needs
+add-length : tie.Need-add-length
+add-length c = search needs
 
 returns : tie.Need-returns
 returns c =
@@ -51,9 +52,6 @@ add-time-zone-string c = search needs
 time-zone-string-requires : tie.Need-time-zone-string-requires
 time-zone-string-requires c κs = search needs
 
-add-t6 : tie.Need-add-t6
-add-t6 c = search needs
-
 same-length : tie.Need-same-length
 same-length c = search needs
 
@@ -79,7 +77,7 @@ local-string-spec =
     tie.close
     (tie.spec
     signed-length-requires
-    add-if1
+    add-length
     returns
     put-local-head-requires
     put-signed-year-requires
@@ -89,6 +87,5 @@ local-string-spec =
     time-string-requires
     add-time-zone-string
     time-zone-string-requires
-    add-t6
     same-length
     returns-2)

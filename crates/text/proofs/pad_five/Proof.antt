@@ -1,6 +1,7 @@
+-- `text::pad_five` meets its contract: the digits of the quotient by 10000 and of the remainder. Assumes nothing.
+use mathlib.Core.Path.{refl}
 use borrow.Author.Needs.{needs}
 use Rattle.text.proofs.Runs.{put-digit, puts-digits}
-use mathlib.Core.Path.{refl}
 use Rattle.text.proofs.pad_five.Statement.{statement}
 use Rattle.text.proofs.pad_five.Tie as tie
 

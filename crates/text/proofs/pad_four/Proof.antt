@@ -1,6 +1,7 @@
+-- `text::pad_four` meets its contract: the digits of the quotient by 100 and of the remainder. Assumes nothing.
+use mathlib.Core.Path.{refl}
 use borrow.Author.Needs.{needs}
 use Rattle.text.proofs.Runs.{puts-digits}
-use mathlib.Core.Path.{refl}
 use Rattle.text.proofs.pad_four.Statement.{statement}
 use Rattle.text.proofs.pad_four.Tie as tie
 

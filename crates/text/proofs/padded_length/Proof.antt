@@ -1,6 +1,7 @@
-use borrow.Author.Needs.{needs}
+-- `text::padded_length` meets its contract: the three cases of the padded year. Assumes nothing.
 use mathlib.Core.Path.{sym, ap}
 use lib.ListN.{length}
+use borrow.Author.Needs.{needs}
 use Rattle.ecma262.proofs.Texts.{padded-four, padded-five, padded-six}
 use Rattle.text.proofs.padded_length.Statement.{statement}
 use Rattle.text.proofs.padded_length.Tie as tie

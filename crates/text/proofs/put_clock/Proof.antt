@@ -1,6 +1,7 @@
+-- `text::put_clock` meets its contract: hour, minute and second one behind the other. Assumes nothing.
+use mathlib.Core.Path.{refl}
 use borrow.Author.Needs.{needs}
 use Rattle.text.proofs.Runs.{puts-then}
-use mathlib.Core.Path.{refl}
 use Rattle.text.proofs.put_clock.Statement.{statement}
 use Rattle.text.proofs.put_clock.Tie as tie
 

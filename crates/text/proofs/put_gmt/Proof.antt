@@ -1,6 +1,7 @@
+-- `text::put_gmt` meets its contract: a space, and behind it three letters. Assumes nothing.
+use mathlib.Core.Path.{refl}
 use borrow.Author.Needs.{needs}
 use Rattle.text.proofs.Runs.{puts-then}
-use mathlib.Core.Path.{refl}
 use Rattle.text.proofs.put_gmt.Statement.{statement}
 use Rattle.text.proofs.put_gmt.Tie as tie
 

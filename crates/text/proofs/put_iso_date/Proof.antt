@@ -1,17 +1,18 @@
+-- `text::put_iso_date` meets its contract: month and date one behind the other. Assumes nothing.
+use mathlib.Core.Path.{refl}
 use borrow.Author.Needs.{needs}
 use Rattle.text.proofs.Runs.{puts-then}
-use mathlib.Core.Path.{refl}
 use Rattle.text.proofs.put_iso_date.Statement.{statement}
 use Rattle.text.proofs.put_iso_date.Tie as tie
 
-add-put-two : tie.Need-add-put-two
-add-put-two c = search needs
+add-month : tie.Need-add-month
+add-month c = search needs
 
 put-two-requires : tie.Need-put-two-requires
 put-two-requires c κs = search needs
 
-add-put-two-2 : tie.Need-add-put-two-2
-add-put-two-2 c = search needs
+add-put-two : tie.Need-add-put-two
+add-put-two c = search needs
 
 put-two-requires-2 : tie.Need-put-two-requires-2
 put-two-requires-2 c κs = search needs
@@ -28,4 +29,4 @@ returns c =
 pub put-iso-date-spec : {M : Type 1} → statement M
 put-iso-date-spec =
     tie.close
-    (tie.spec add-put-two put-two-requires add-put-two-2 put-two-requires-2 same-length returns)
+    (tie.spec add-month put-two-requires add-put-two put-two-requires-2 same-length returns)

@@ -1,6 +1,7 @@
+-- `text::put_iso_time` meets its contract: its five parts one behind the other. Assumes nothing.
+use mathlib.Core.Path.{refl}
 use borrow.Author.Needs.{needs}
 use Rattle.text.proofs.Runs.{puts-then}
-use mathlib.Core.Path.{refl}
 use Rattle.text.proofs.put_iso_time.Statement.{statement}
 use Rattle.text.proofs.put_iso_time.Tie as tie
 

@@ -1,9 +1,10 @@
-use borrow.Author.Needs.{needs}
-use Rattle.text.proofs.Sign.{below-zero, from-zero, abs-of}
-use Rattle.text.proofs.Runs.{puts-own, puts-then}
-use Rattle.ecma262.proofs.Texts.{iso-below, iso-four, iso-above}
-use native.Mathlib.Omega.{arith}
+-- `text::put_iso_year` meets its contract: the three cases of the ISO year. Assumes nothing.
 use mathlib.Core.Path.{refl}
+use native.Mathlib.Omega.{arith}
+use borrow.Author.Needs.{needs}
+use Rattle.ecma262.proofs.Texts.{iso-below, iso-four, iso-above}
+use Rattle.text.proofs.Runs.{puts-own, puts-then}
+use Rattle.text.proofs.Sign.{below-zero, from-zero, abs-of}
 use Rattle.text.proofs.put_iso_year.Statement.{statement}
 use Rattle.text.proofs.put_iso_year.Tie as tie
 

@@ -1,6 +1,7 @@
+-- `text::put_name` meets its contract: three stores in a row. Assumes nothing.
+use mathlib.Core.Path.{refl, sym}
 use borrow.Author.Needs.{needs}
 use Rattle.text.proofs.Runs.{puts-as, puts-then, three}
-use mathlib.Core.Path.{refl, sym}
 use Rattle.text.proofs.put_name.Statement.{statement}
 use Rattle.text.proofs.put_name.Tie as tie
 

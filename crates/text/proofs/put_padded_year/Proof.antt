@@ -1,6 +1,7 @@
+-- `text::put_padded_year` meets its contract: the three cases of the padded year. Assumes nothing.
 use borrow.Author.Needs.{needs}
-use Rattle.text.proofs.Runs.{puts-own}
 use Rattle.ecma262.proofs.Texts.{padded-four, padded-five, padded-six}
+use Rattle.text.proofs.Runs.{puts-own}
 use Rattle.text.proofs.put_padded_year.Statement.{statement}
 use Rattle.text.proofs.put_padded_year.Tie as tie
 

@@ -1,12 +1,13 @@
-use borrow.Author.Needs.{needs}
-use Rattle.text.proofs.Sign.{abs-of, at-fitting, puts-fitting}
-use Rattle.text.proofs.Runs.{puts-own, puts-then}
-use Rattle.ecma262.specs.Texts.{paddedYear, yearSign}
-use lib.ListN.{length}
-use native.Mathlib.Omega.{arith}
-use Prim.Native.Nat.{_+_}
+-- `text::put_signed_year` meets its contract: the sign, and behind it the padded year. Assumes nothing.
 use mathlib.Core.List.{_++_}
 use mathlib.Core.Path.{_≡_, ap}
+use Prim.Native.Nat.{_+_}
+use native.Mathlib.Omega.{arith}
+use lib.ListN.{length}
+use borrow.Author.Needs.{needs}
+use Rattle.ecma262.specs.Texts.{paddedYear, yearSign}
+use Rattle.text.proofs.Runs.{puts-own, puts-then}
+use Rattle.text.proofs.Sign.{abs-of, at-fitting, puts-fitting}
 use Rattle.text.proofs.put_signed_year.Statement.{statement}
 use Rattle.text.proofs.put_signed_year.Tie as tie
 

@@ -1,7 +1,7 @@
 -- `text::put_text` meets its contract. The loop's invariant: the output is the first i bytes of the text, and behind them what stood there.
 -- The measure is what is left of the text. Assumes nothing.
-use mathlib.Core.Path.{_≡_, refl, ap, _∙_}
 use mathlib.Core.List.{_++_}
+use mathlib.Core.Path.{_≡_, refl, ap, _∙_}
 use Prim.Native.Nat.{_+_, _-_, _≤_}
 use native.Mathlib.Omega.{arith}
 use lib.ListN.{length, take, drop, getD, set, length-set}

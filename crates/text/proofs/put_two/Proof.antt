@@ -1,6 +1,7 @@
+-- `text::put_two` meets its contract: the separator, and behind it two digits. Assumes nothing.
+use mathlib.Core.Path.{refl}
 use borrow.Author.Needs.{needs}
 use Rattle.text.proofs.Runs.{puts-then}
-use mathlib.Core.Path.{refl}
 use Rattle.text.proofs.put_two.Statement.{statement}
 use Rattle.text.proofs.put_two.Tie as tie
 

@@ -1,7 +1,8 @@
-use borrow.Author.Needs.{needs}
-use Rattle.text.proofs.Runs.{puts-as, puts-then}
+-- `text::put_utc_head` meets its contract: its six parts one behind the other. Assumes nothing.
 use mathlib.Core.List.{append-assoc}
 use mathlib.Core.Path.{refl}
+use borrow.Author.Needs.{needs}
+use Rattle.text.proofs.Runs.{puts-as, puts-then}
 use Rattle.text.proofs.put_utc_head.Statement.{statement}
 use Rattle.text.proofs.put_utc_head.Tie as tie
 

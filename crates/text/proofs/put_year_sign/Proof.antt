@@ -1,11 +1,12 @@
-use borrow.Author.Needs.{needs}
-use Rattle.text.proofs.Sign.{below-zero, from-zero}
-use Rattle.text.proofs.Runs.{puts-none, puts-own}
-use Rattle.ecma262.proofs.Texts.{sign-below, sign-none}
-use lib.ListN.{length}
-use native.Mathlib.Nat.{add-zero}
-use Prim.Native.Nat.{_+_}
+-- `text::put_year_sign` meets its contract: one byte before a negative year, none before another. Assumes nothing.
 use mathlib.Core.Path.{sym, ap, _∙_}
+use Prim.Native.Nat.{_+_}
+use native.Mathlib.Nat.{add-zero}
+use lib.ListN.{length}
+use borrow.Author.Needs.{needs}
+use Rattle.ecma262.proofs.Texts.{sign-below, sign-none}
+use Rattle.text.proofs.Runs.{puts-none, puts-own}
+use Rattle.text.proofs.Sign.{below-zero, from-zero}
 use Rattle.text.proofs.put_year_sign.Statement.{statement}
 use Rattle.text.proofs.put_year_sign.Tie as tie
 

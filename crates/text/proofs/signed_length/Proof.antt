@@ -1,11 +1,12 @@
+-- `text::signed_length` meets its contract: one more than the padded year has, before a negative year. Assumes nothing.
+use mathlib.Core.Path.{_≡_, sym, ap, _∙_}
+use native.Mathlib.Omega.{arith}
+use lib.IntN.{natAbs}
+use lib.ListN.{length}
 use borrow.Author.Needs.{needs}
-use Rattle.text.proofs.Sign.{below-zero, from-zero, abs-of}
 use Rattle.ecma262.proofs.Texts.{length-below, length-from}
 use Rattle.ecma262.specs.Texts.{paddedYear}
-use lib.ListN.{length}
-use lib.IntN.{natAbs}
-use native.Mathlib.Omega.{arith}
-use mathlib.Core.Path.{_≡_, sym, ap, _∙_}
+use Rattle.text.proofs.Sign.{below-zero, from-zero, abs-of}
 use Rattle.text.proofs.signed_length.Statement.{statement}
 use Rattle.text.proofs.signed_length.Tie as tie
 

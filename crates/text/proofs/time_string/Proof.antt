@@ -1,6 +1,7 @@
+-- `text::time_string` meets its contract: the clock, and behind it ` GMT`. Assumes nothing.
+use mathlib.Core.Path.{refl}
 use borrow.Author.Needs.{needs}
 use Rattle.text.proofs.Runs.{puts-then}
-use mathlib.Core.Path.{refl}
 use Rattle.text.proofs.time_string.Statement.{statement}
 use Rattle.text.proofs.time_string.Tie as tie
 

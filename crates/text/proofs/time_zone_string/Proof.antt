@@ -1,11 +1,12 @@
-use borrow.Author.Needs.{needs}
-use Rattle.text.proofs.Sign.{abs-of, at-fitting}
-use Rattle.text.proofs.Runs.{puts-as, puts-then}
-use Rattle.ecma262.proofs.Texts.{zone-text}
-use Rattle.ecma262.specs.Texts.{offsetSign}
-use native.Mathlib.Omega.{arith}
+-- `text::time_zone_string` meets its contract: the sign, the hours and the minutes one behind the other. Assumes nothing.
 use mathlib.Core.List.{[], _∷_}
 use mathlib.Core.Path.{_≡_, refl}
+use native.Mathlib.Omega.{arith}
+use borrow.Author.Needs.{needs}
+use Rattle.ecma262.proofs.Texts.{zone-text}
+use Rattle.ecma262.specs.Texts.{offsetSign}
+use Rattle.text.proofs.Runs.{puts-as, puts-then}
+use Rattle.text.proofs.Sign.{abs-of, at-fitting}
 use Rattle.text.proofs.time_zone_string.Statement.{statement}
 use Rattle.text.proofs.time_zone_string.Tie as tie
 

@@ -1,9 +1,9 @@
 -- `text::unsigned_abs` meets its contract: -1 - x fits for every negative x, where 0 - x does not at the least i32. Assumes nothing.
-use borrow.Author.Needs.{needs}
 use native.Mathlib.Omega.{arith}
 use lib.IntN.{pos}
 use lib.Signed.{_<ℤ_, yes-nonNeg}
 use mir.Facts.{toZ-ofZ}
+use borrow.Author.Needs.{needs}
 use Rattle.text.proofs.Sign.{below-zero, from-zero, flip-abs, flip-nonneg, flip-fits, abs-fits}
 use Rattle.text.proofs.unsigned_abs.Statement.{statement}
 use Rattle.text.proofs.unsigned_abs.Tie as tie

@@ -1,14 +1,15 @@
-use borrow.Author.Needs.{needs}
-use Rattle.ecma262.proofs.Texts.{length-utc}
-use Rattle.text.proofs.Sign.{at-fitting, year-fits, puts-fitting}
-use Rattle.text.proofs.Runs.{puts-as, puts-then, prints-none, prints-whole}
-use Rattle.text.specs.Print.{wholeOf}
-use Rattle.ecma262.specs.Texts.{signedYear}
-use lib.ListN.{length}
-use native.Mathlib.Omega.{arith}
-use Prim.Native.Nat.{_+_}
+-- `text::utc_string` meets its contract: head, year, space and time stand one behind the other. Assumes nothing.
 use mathlib.Core.List.{append-assoc}
 use mathlib.Core.Path.{_≡_, refl, ap, _∙_}
+use Prim.Native.Nat.{_+_}
+use native.Mathlib.Omega.{arith}
+use lib.ListN.{length}
+use borrow.Author.Needs.{needs}
+use Rattle.ecma262.proofs.Texts.{length-utc}
+use Rattle.ecma262.specs.Texts.{signedYear}
+use Rattle.text.specs.Print.{wholeOf}
+use Rattle.text.proofs.Runs.{puts-as, puts-then, prints-none, prints-whole}
+use Rattle.text.proofs.Sign.{at-fitting, year-fits, puts-fitting}
 use Rattle.text.proofs.utc_string.Statement.{statement}
 use Rattle.text.proofs.utc_string.Tie as tie
 
@@ -18,8 +19,8 @@ year-length b = at-fitting (λ y. length (signedYear y) ≡ b .signed-length .re
 signed-length-requires : tie.Need-signed-length-requires
 signed-length-requires c κs = search needs
 
-add-if1 : tie.Need-add-if1
-add-if1 c = search needs
+add-length : tie.Need-add-length
+add-length c = search needs
 
 returns : tie.Need-returns
 returns c =
@@ -45,9 +46,6 @@ add-time-string c = search needs
 time-string-requires : tie.Need-time-string-requires
 time-string-requires c κs = search needs
 
-add-t4 : tie.Need-add-t4
-add-t4 c = search needs
-
 same-length : tie.Need-same-length
 same-length c = search needs
 
@@ -71,7 +69,7 @@ utc-string-spec =
     tie.close
     (tie.spec
     signed-length-requires
-    add-if1
+    add-length
     returns
     put-utc-head-requires
     put-signed-year-requires
@@ -79,6 +77,5 @@ utc-string-spec =
     put-requires
     add-time-string
     time-string-requires
-    add-t4
     same-length
     returns-2)
