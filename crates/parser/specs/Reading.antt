@@ -74,11 +74,11 @@ unfoldable pub signedYear : Bool → ℕ → Reader Year
 signedYear true y s = cond (eqb y 0) (fault Range) (ok (six true y) s)
 signedYear false y s = ok (six false y) s
 
+abbrev pub fourDigits : Reader Year
+fourDigits = after (digitsAfter 4 0) (λ y. give (four y))
+
 unfoldable pub readYear : Reader Year
-readYear =
-    choose 43 (after (digitsAfter 6 0) (signedYear false))
-    (choose 45 (after (digitsAfter 6 0) (signedYear true))
-    (after (digitsAfter 4 0) (λ y. give (four y))))
+readYear = choose 43 (after (digitsAfter 6 0) (signedYear false)) (choose 45 (after (digitsAfter 6 0) (signedYear true)) fourDigits)
 
 -- ---- 2. "Then the end, `T`, or `-` and a month 01 to 12; then the end, `T`, or `-` and a day 01 to 31; then the end or `T`."
 
@@ -136,11 +136,14 @@ finally (ok a s) k = k a s
 finally (fault f) k = refused f
 
 -- 5. "Hour 24 needs all smaller fields 0"; row 7, after 8: "hour 24 with minute, second or decimals not 0; the offset is free"
-abbrev pub isMidnight : Time → Bool
-isMidnight t = eqb (timeMinute t + timeSecond t + timeMs t) 0
+abbrev pub hourAllowed : ℕ → ℕ → ℕ → ℕ → Bool
+hourAllowed hour minute second ms = cond (eqb hour 24) (cond (eqb minute 0) (cond (eqb second 0) (eqb ms 0) false) false) true
+
+abbrev pub timeAllowed : Time → Bool
+timeAllowed t = hourAllowed (timeHour t) (timeMinute t) (timeSecond t) (timeMs t)
 
 unfoldable pub ending : Year → Date → Time → Zone → List ℕ → Reading
-ending y d t z [] = cond (eqb (timeHour t) 24) (cond (isMidnight t) (form (timed y d t z)) (refused Range)) (form (timed y d t z))
+ending y d t z [] = cond (timeAllowed t) (form (timed y d t z)) (refused Range)
 ending y d t z (b ∷ s) = refused (afterZone z)
 
 unfoldable pub timePart : Year → Date → List ℕ → Reading
