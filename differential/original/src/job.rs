@@ -1,0 +1,12 @@
+use crate::object::JsFunction;
+pub struct JobCallback {
+    callback: JsFunction,
+}
+impl JobCallback {
+    pub fn new(callback: JsFunction, _: ()) -> Self {
+        Self { callback }
+    }
+    pub fn callback(&self) -> &JsFunction {
+        &self.callback
+    }
+}
