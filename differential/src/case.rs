@@ -134,6 +134,52 @@ impl<'a> Case<'a> {
     }
 }
 
+/// For a reader's eyes: what the line of a case holds.
+impl Case<'_> {
+    pub fn plainly(&self) -> String {
+        let mut words = vec![self.tag().to_string()];
+        if !self.zone().is_empty() {
+            words.push(format!("list {}", list_plainly(self.zone())));
+        }
+        match *self {
+            Case::Read { text, .. } | Case::Rewrite { text, .. } => {
+                words.push(format!("text \"{}\"", text.escape_ascii()));
+            }
+            Case::ToIsoString { time, .. }
+            | Case::ToUtcString { time, .. }
+            | Case::ToString { time, .. }
+            | Case::SetUtc { time, .. }
+            | Case::Set { time, .. } => words.push(format!("time {:?}", f64::from_bits(time))),
+            Case::Door { door, args, .. } => {
+                let floats = args[..door.words].iter().map(|w| f64::from_bits(*w));
+                words.push(format!("floats {:?}", floats.collect::<Vec<_>>()));
+            }
+            Case::BuildUtc { .. } | Case::BuildLocal { .. } => {}
+        }
+        if let Some((map, rest)) = self.input().split_first().filter(|_| self.takes_record()) {
+            let fields = rest.chunks_exact(8).map(|f| f64::from_le_bytes(f.try_into().unwrap()));
+            words.push(format!("map {map:07b} fields {:?}", fields.collect::<Vec<_>>()));
+        }
+        words.push(format!("output of {}", self.out().len()));
+        words.join(", ")
+    }
+
+    fn takes_record(&self) -> bool {
+        !matches!(self, Case::Read { .. } | Case::Rewrite { .. })
+    }
+}
+
+/// The first records of a list.
+fn list_plainly(zone: &[u8]) -> String {
+    let record = |r: &[u8]| {
+        let second = i64::from_le_bytes(r[..8].try_into().unwrap());
+        let offset = i32::from_le_bytes(r[8..].try_into().unwrap());
+        format!("({second}, {offset})")
+    };
+    let first: String = zone.chunks_exact(12).take(6).map(record).collect();
+    format!("{first} of {} bytes", zone.len())
+}
+
 /// A line read back: the tag and the fields' bytes (a 64-bit value high byte first).
 pub struct Line {
     tag: String,

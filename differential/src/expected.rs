@@ -4,7 +4,7 @@
 use crate::case::{Case, setter_row};
 use crate::lower::Door;
 use crate::outcome::{Outcome, bits};
-use crate::paper::{self, Fields, Record};
+use crate::paper::{self, Fields, Form, Record};
 use crate::standard;
 use crate::whole;
 use ::original::doors::{self as original, Setter, ZoneList, calendar, local};
@@ -28,33 +28,62 @@ impl Expected {
     }
 }
 
+/// The two sides that say what is due: the reading of 01 and the original. A bite puts a wrong
+/// function in the place of one.
+#[derive(Clone, Copy)]
+pub struct Sides {
+    pub zone_list: fn(&[u8]) -> Result<Vec<Record>, u32>,
+    pub time_value: fn(u64) -> Result<Option<i64>, u32>,
+    pub field_record: fn(&[u8], usize) -> Result<Fields, u32>,
+    pub text: fn(&[u8]) -> Result<Form, u32>,
+    pub instant: fn(&Form, &[Record]) -> i128,
+    pub parse: fn(&[u8], &ZoneList) -> Option<i64>,
+    pub set: fn(Setter, Option<&ZoneList>, f64, &[f64]) -> f64,
+}
+
+/// The sides as they are.
+pub const RIGHT: Sides = Sides {
+    zone_list: paper::zone_list,
+    time_value: paper::time_value,
+    field_record: paper::field_record,
+    text: paper::text,
+    instant: whole::instant,
+    parse: original::parse,
+    set: original::set,
+};
+
 /// The expected outcome of a case.
 pub fn expected(case: &Case) -> Expected {
-    match accepted(case) {
+    expected_by(&RIGHT, case)
+}
+
+/// The expected outcome by the given sides.
+pub fn expected_by(sides: &Sides, case: &Case) -> Expected {
+    match accepted(sides, case) {
         Err(number) => Expected::Outcome(Outcome::refused(number, case.out())),
         Ok(list) => match *case {
-            Case::Read { text, .. } => read(&list, text, None),
-            Case::Rewrite { text, out, .. } => read(&list, text, Some(out)),
+            Case::Read { text, .. } => read(sides, &list, text, None),
+            Case::Rewrite { text, out, .. } => read(sides, &list, text, Some(out)),
             Case::Door { door, args, .. } => below(door, args, &list),
-            Case::BuildUtc { record } => build(None, record),
-            Case::BuildLocal { record, .. } => build(Some(&list), record),
-            Case::SetUtc { setter, time, record } => set(setter, None, time, record),
-            Case::Set { setter, time, record, .. } => set(setter, Some(&list), time, record),
-            _ => write(case, &list),
+            Case::BuildUtc { record } => build(sides, None, record),
+            Case::BuildLocal { record, .. } => build(sides, Some(&list), record),
+            Case::SetUtc { setter, time, record } => set(sides, setter, None, time, record),
+            Case::Set { setter, time, record, .. } => set(sides, setter, Some(&list), time, record),
+            _ => write(sides, case, &list),
         },
     }
 }
 
 /// The rows of the table that stand before the reading of a text: zone list, time value, field
 /// record. A call that takes no list has an empty one here.
-fn accepted(case: &Case) -> Result<Vec<Record>, u32> {
+fn accepted(sides: &Sides, case: &Case) -> Result<Vec<Record>, u32> {
     let list = match case {
         Case::Read { zone, .. }
         | Case::Rewrite { zone, .. }
         | Case::ToString { zone, .. }
         | Case::BuildLocal { zone, .. }
-        | Case::Set { zone, .. } => paper::zone_list(zone)?,
-        Case::Door { zone, .. } => paper::zone_list(zone).unwrap_or_default(),
+        | Case::Set { zone, .. } => (sides.zone_list)(zone)?,
+        Case::Door { zone, .. } => (sides.zone_list)(zone).unwrap_or_default(),
         _ => Vec::new(),
     };
     match *case {
@@ -63,16 +92,16 @@ fn accepted(case: &Case) -> Result<Vec<Record>, u32> {
         | Case::ToString { time, .. }
         | Case::SetUtc { time, .. }
         | Case::Set { time, .. } => {
-            paper::time_value(time)?;
+            (sides.time_value)(time)?;
         }
         _ => {}
     }
     match *case {
         Case::BuildUtc { record } | Case::BuildLocal { record, .. } => {
-            paper::field_record(record, 7)?;
+            (sides.field_record)(record, 7)?;
         }
         Case::SetUtc { setter, record, .. } | Case::Set { setter, record, .. } => {
-            paper::field_record(record, setter_row(setter).3)?;
+            (sides.field_record)(record, setter_row(setter).3)?;
         }
         _ => {}
     }
@@ -80,10 +109,10 @@ fn accepted(case: &Case) -> Result<Vec<Record>, u32> {
 }
 
 /// Reading, and rewriting where an output is lent.
-fn read(list: &[Record], text: &[u8], out: Option<&[u8]>) -> Expected {
+fn read(sides: &Sides, list: &[Record], text: &[u8], out: Option<&[u8]>) -> Expected {
     let says =
-        paper::text(text).and_then(|form| whole::clip(whole::instant(&form, list)).ok_or(9u32));
-    let does = original::parse(text, &ZoneList::new(list));
+        (sides.text)(text).and_then(|form| whole::clip((sides.instant)(&form, list)).ok_or(9u32));
+    let does = (sides.parse)(text, &ZoneList::new(list));
     match (says, does) {
         (Err(number), None) => Expected::Outcome(Outcome::refused(number, out.unwrap_or(&[]))),
         (Ok(t), Some(v)) if t == i128::from(v) => match out {
@@ -109,7 +138,7 @@ fn written(t: f64, text: Vec<u8>, by_whole_numbers: String, out: &[u8]) -> Expec
 }
 
 /// The three writers. The time value is accepted.
-fn write(case: &Case, list: &[Record]) -> Expected {
+fn write(sides: &Sides, case: &Case, list: &[Record]) -> Expected {
     let (time, out) = match *case {
         Case::ToIsoString { time, out }
         | Case::ToUtcString { time, out }
@@ -117,7 +146,7 @@ fn write(case: &Case, list: &[Record]) -> Expected {
         _ => unreachable!("not a writer"),
     };
     let t = f64::from_bits(time);
-    let whole = paper::time_value(time).unwrap().map(i128::from);
+    let whole = (sides.time_value)(time).unwrap().map(i128::from);
     let said = |text: fn(i128) -> String| whole.map_or("Invalid Date".into(), text);
     // "A writer that succeeds returns the time it was given (-0 as 0)."
     let value = t + 0.0;
@@ -155,9 +184,9 @@ pub fn year_unclaimed(year: f64) -> bool {
 
 /// The field builder: "absent: month 0, date 1, others 0, but year NaN". The gaps before the last
 /// given field are written in; the rest is left out of the original's call.
-fn build(list: Option<&[Record]>, record: &[u8]) -> Expected {
+fn build(sides: &Sides, list: Option<&[Record]>, record: &[u8]) -> Expected {
     const ABSENT: [f64; 7] = [f64::NAN, 0.0, 1.0, 0.0, 0.0, 0.0, 0.0];
-    let fields = paper::field_record(record, 7).unwrap();
+    let fields = (sides.field_record)(record, 7).unwrap();
     if fields[0].is_some_and(year_unclaimed) {
         return Expected::Unclaimed;
     }
@@ -182,13 +211,19 @@ fn call_arguments(fields: &Fields, absent: [f64; 7]) -> Vec<f64> {
 }
 
 /// A setter: "in a setter the first is NaN, and any other keeps its present value".
-fn set(setter: Setter, list: Option<&[Record]>, time: u64, record: &[u8]) -> Expected {
-    let fields = paper::field_record(record, setter_row(setter).3).unwrap();
+fn set(
+    sides: &Sides,
+    setter: Setter,
+    list: Option<&[Record]>,
+    time: u64,
+    record: &[u8],
+) -> Expected {
+    let fields = (sides.field_record)(record, setter_row(setter).3).unwrap();
     let t = f64::from_bits(time);
     let zone = list.map(ZoneList::new);
     let args = call_arguments(&fields, present(setter, zone.as_ref(), t));
-    let answer = original::set(setter, zone.as_ref(), t, &args);
-    valued(answer, standard::set(setter, list, paper::time_value(time).unwrap(), &fields))
+    let answer = (sides.set)(setter, zone.as_ref(), t, &args);
+    valued(answer, standard::set(setter, list, (sides.time_value)(time).unwrap(), &fields))
 }
 
 /// What an absent argument stands for, by the original's own functions.

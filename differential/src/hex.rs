@@ -20,11 +20,3 @@ pub fn bytes(digits: &str) -> Result<Vec<u8>, String> {
         .map(|i| u8::from_str_radix(&digits[2 * i..2 * i + 2], 16).map_err(|e| e.to_string()))
         .collect()
 }
-
-/// A 64-bit value of exactly sixteen digits.
-pub fn word(digits: &str) -> Result<u64, String> {
-    if digits.len() != 16 {
-        return Err(format!("not sixteen digits: {digits}"));
-    }
-    u64::from_str_radix(digits, 16).map_err(|e| e.to_string())
-}

@@ -17,7 +17,6 @@ pub enum Linked {
 /// A function below the C interface.
 pub struct Door {
     pub tag: &'static str,
-    pub name: &'static str,
     /// Words after the zone list, if it takes one.
     pub words: usize,
     pub listed: bool,
@@ -45,7 +44,6 @@ macro_rules! table {
     ($($tag:literal $door:ident $shape:ident $words:literal: $original:expr;)*) => {
         &[$(Door {
             tag: $tag,
-            name: stringify!($door),
             words: $words,
             listed: matches!(Linked::$shape(None), Linked::Listed(_) | Linked::ListedOne(_)),
             linked: || Linked::$shape(doors::$door()),

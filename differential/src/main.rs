@@ -2,6 +2,9 @@
 //!
 //! See README.md for the modes.
 
+mod bite;
+mod bite_answers;
+mod bite_sides;
 mod case;
 mod doors;
 mod expected;
@@ -14,7 +17,10 @@ mod outcome;
 mod paper;
 mod random;
 mod run;
+mod sample;
 mod standard;
+#[cfg(test)]
+mod tests;
 mod texts;
 mod whole;
 
@@ -32,32 +38,43 @@ struct Options {
     scale: u64,
     threads: usize,
     only: Option<String>,
+    /// Of a sample: how many cases of each function and number a family gives.
+    each: usize,
     mode: Mode,
 }
 
 enum Mode {
     Compare,
     Case(String),
+    Bite,
+    Sample(String),
     List,
 }
 
+/// The quick run's scale: well below a minute on two cores.
+const QUICK: u64 = 4;
+
 const USAGE: &str = "words: [--quick | --long N] [--seed S] [--threads N] [--only FAMILY] \
-                     [--case LINE | --list]";
+                     [--case LINE | --bite | --sample FOLDER [--each N] | --list]";
 
 fn options() -> Result<Options, String> {
     let threads = std::thread::available_parallelism().map_or(1, |n| n.get());
-    let mut options = Options { seed: 1, scale: 1, threads, only: None, mode: Mode::Compare };
+    let mut options =
+        Options { seed: 1, scale: QUICK, threads, only: None, each: 24, mode: Mode::Compare };
     let mut words = std::env::args().skip(1);
     while let Some(word) = words.next() {
         let mut next = || words.next().ok_or(format!("{word} needs a word after it"));
         let number = |w: String| w.parse::<u64>().map_err(|e| format!("{w}: {e}"));
         match word.as_str() {
-            "--quick" => options.scale = 1,
+            "--quick" => options.scale = QUICK,
             "--long" => options.scale = number(next()?)?.max(1),
             "--seed" => options.seed = number(next()?)?,
             "--threads" => options.threads = number(next()?)?.max(1) as usize,
             "--only" => options.only = Some(next()?),
             "--case" => options.mode = Mode::Case(next()?),
+            "--bite" => options.mode = Mode::Bite,
+            "--sample" => options.mode = Mode::Sample(next()?),
+            "--each" => options.each = number(next()?)? as usize,
             "--list" => options.mode = Mode::List,
             _ => return Err(USAGE.into()),
         }
@@ -69,6 +86,8 @@ fn main() -> ExitCode {
     let good = options().and_then(|options| match &options.mode {
         Mode::Compare => Ok(compare(&options)),
         Mode::Case(line) => run::replay(line, &Library),
+        Mode::Bite => Ok(bite::all(options.seed, options.threads)),
+        Mode::Sample(folder) => sample::write(folder, options.seed, options.each),
         Mode::List => {
             families::all().iter().for_each(|family| println!("{}", family.name));
             Ok(true)

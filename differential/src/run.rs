@@ -1,8 +1,9 @@
 //! One family's run: cases counted, answers compared, failures kept with the smallest first.
 
 use crate::case::{Case, Line};
-use crate::expected::{Expected, expected};
+use crate::expected::{Expected, RIGHT, Sides, expected, expected_by};
 use crate::library::{Nothing, Subject};
+use crate::outcome::Outcome;
 use crate::random::Random;
 use std::time::{Duration, Instant};
 
@@ -13,8 +14,8 @@ pub struct Failure {
     pub what: String,
 }
 
-/// How many failures of a family are kept.
-const KEPT: usize = 2000;
+/// How many of a family's failures are kept: the smallest ones.
+const KEPT: usize = 1000;
 
 /// What a family found.
 #[derive(Default)]
@@ -27,32 +28,51 @@ pub struct Tally {
     pub unclaimed: u64,
     /// Facts held, beside the cases.
     pub facts: u64,
-    /// Every failure counted, the first ones kept.
+    /// Every failure counted, the smallest ones kept.
     pub failed: u64,
     pub failures: Vec<Failure>,
 }
 
 impl Tally {
-    /// The kept failures, the smallest case first.
+    /// The kept failures, the smallest case first, none twice.
     pub fn smallest(&self) -> Vec<Failure> {
         let mut sorted = self.failures.clone();
-        sorted.sort_by(|a, b| (a.line.len(), &a.line).cmp(&(b.line.len(), &b.line)));
+        sort(&mut sorted);
+        sorted.dedup_by(|a, b| a.line == b.line);
         sorted
     }
+
+    fn fail(&mut self, line: String, what: String) {
+        self.failed += 1;
+        self.failures.push(Failure { line, what });
+        if self.failures.len() == 2 * KEPT {
+            sort(&mut self.failures);
+            self.failures.truncate(KEPT);
+        }
+    }
 }
+
+/// By length of line, then by the line itself.
+fn sort(failures: &mut [Failure]) {
+    failures.sort_by(|a, b| (a.line.len(), &a.line).cmp(&(b.line.len(), &b.line)));
+}
+
+/// Takes each case with its expected outcome.
+pub type Collector<'a> = &'a mut dyn FnMut(&Case, &Outcome);
 
 /// A family at work.
 pub struct Run<'a> {
     pub random: Random,
     pub tally: Tally,
     subject: &'a dyn Subject,
+    sides: &'a Sides,
     name: &'static str,
     /// How many times the quick run's random cases.
     scale: u64,
     /// Stop at the first failure.
     first_only: bool,
     /// Where each case goes besides, with its expected outcome.
-    collector: Option<&'a mut dyn FnMut(&Case, &crate::outcome::Outcome)>,
+    collector: Option<Collector<'a>>,
     shown: Instant,
 }
 
@@ -62,6 +82,7 @@ impl<'a> Run<'a> {
             random: Random::new(seed, name),
             tally: Tally::default(),
             subject,
+            sides: &RIGHT,
             name,
             scale,
             first_only: false,
@@ -71,16 +92,13 @@ impl<'a> Run<'a> {
     }
 
     /// The oracle alone, each case handed on with its outcome.
-    pub fn collecting(
-        name: &'static str,
-        seed: u64,
-        collector: &'a mut dyn FnMut(&Case, &crate::outcome::Outcome),
-    ) -> Self {
+    pub fn collecting(name: &'static str, seed: u64, collector: Collector<'a>) -> Self {
         Self { collector: Some(collector), ..Self::new(name, seed, 1, &Nothing) }
     }
 
-    /// Stops at the first failure.
-    pub fn to_first_failure(mut self) -> Self {
+    /// For a bite: by sides that may be wrong, to the first failure.
+    pub fn bitten(mut self, sides: &'a Sides) -> Self {
+        self.sides = sides;
         self.first_only = true;
         self
     }
@@ -102,7 +120,7 @@ impl<'a> Run<'a> {
         }
         self.tally.cases += 1;
         self.show_progress();
-        match expected(case) {
+        match expected_by(self.sides, case) {
             Expected::Unclaimed => self.tally.unclaimed += 1,
             Expected::Parting(what) => self.fail(case.line(), format!("PARTING: {what}")),
             Expected::Outcome(outcome) => {
@@ -114,7 +132,7 @@ impl<'a> Run<'a> {
         }
     }
 
-    fn compare(&mut self, case: &Case, outcome: &crate::outcome::Outcome) {
+    fn compare(&mut self, case: &Case, outcome: &Outcome) {
         let Some(answered) = self.subject.answer(case) else {
             return;
         };
@@ -136,10 +154,7 @@ impl<'a> Run<'a> {
     }
 
     fn fail(&mut self, line: String, what: String) {
-        self.tally.failed += 1;
-        if self.tally.failures.len() < KEPT {
-            self.tally.failures.push(Failure { line, what });
-        }
+        self.tally.fail(line, what);
     }
 
     fn show_progress(&mut self) {
@@ -155,6 +170,7 @@ impl<'a> Run<'a> {
 pub fn replay(line: &str, subject: &dyn Subject) -> Result<bool, String> {
     let line = Line::parse(line)?;
     let case = line.case()?;
+    println!("{}", case.plainly());
     let mut run = Run::new("case", 0, 1, subject);
     match expected(&case) {
         Expected::Outcome(outcome) => println!("due {}", outcome.line()),

@@ -80,8 +80,8 @@ fn numbers(args: &[f64]) -> Vec<JsValue> {
     args.iter().map(|x| JsValue::from(*x)).collect()
 }
 
-/// A setter's method on a date that holds `t`, with its first arguments given. The answer is what
-/// the method returns; the date then holds the same, but where it held NaN and nothing was stored.
+/// A setter's method on a date that holds `t`, with its first arguments given; UTC where no list
+/// is. The answer is what the method returns.
 pub fn set(setter: Setter, zone: Option<&ZoneList>, t: f64, args: &[f64]) -> f64 {
     let args = &numbers(args);
     let this = &date_object(t);

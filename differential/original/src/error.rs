@@ -1,8 +1,11 @@
+//! Errors: a kind and a message.
+
 #[derive(Debug, Clone, PartialEq)]
 pub struct JsNativeError {
     pub kind: &'static str,
     pub message: String,
 }
+
 impl JsNativeError {
     pub fn typ() -> Self {
         Self { kind: "TypeError", message: String::new() }
@@ -15,8 +18,10 @@ impl JsNativeError {
         self
     }
 }
+
 #[derive(Debug, Clone, PartialEq)]
 pub struct JsError(pub JsNativeError);
+
 impl From<JsNativeError> for JsError {
     fn from(e: JsNativeError) -> Self {
         Self(e)

@@ -1,3 +1,5 @@
+//! Objects: an object is its data and nothing else.
+
 use crate::{Context, JsResult, JsString, JsValue, context::intrinsics::Intrinsics};
 use std::{
     any::Any,
@@ -10,9 +12,11 @@ pub type NativeFn = fn(&JsValue, &[JsValue], &mut Context) -> JsResult<JsValue>;
 
 #[derive(Debug)]
 pub struct Erased;
+
 pub struct Object<T> {
     data: T,
 }
+
 impl<T> Object<T> {
     pub fn data(&self) -> &T {
         &self.data
@@ -21,21 +25,25 @@ impl<T> Object<T> {
         &mut self.data
     }
 }
+
 /// An object is its data; nothing else is kept.
 pub struct JsObject<T = Erased> {
     cell: Rc<dyn Any>,
     p: PhantomData<T>,
 }
+
 impl<T> Clone for JsObject<T> {
     fn clone(&self) -> Self {
         Self { cell: self.cell.clone(), p: PhantomData }
     }
 }
+
 impl<T> std::fmt::Debug for JsObject<T> {
     fn fmt(&self, f: &mut std::fmt::Formatter<'_>) -> std::fmt::Result {
         f.write_str("object")
     }
 }
+
 impl<T: 'static> JsObject<T> {
     pub fn borrow(&self) -> Ref<'_, Object<T>> {
         self.cell.downcast_ref::<RefCell<Object<T>>>().unwrap().borrow()
@@ -44,6 +52,7 @@ impl<T: 'static> JsObject<T> {
         self.cell.downcast_ref::<RefCell<Object<T>>>().unwrap().borrow_mut()
     }
 }
+
 impl JsObject {
     pub fn of<T: 'static>(data: T) -> Self {
         Self { cell: Rc::new(RefCell::new(Object { data })), p: PhantomData }
@@ -75,13 +84,16 @@ impl JsObject {
         unimplemented!()
     }
 }
+
 #[derive(Clone)]
 pub struct JsFunction(pub NativeFn);
+
 impl JsFunction {
     pub fn call(&self, this: &JsValue, args: &[JsValue], c: &mut Context) -> JsResult<JsValue> {
         (self.0)(this, args, c)
     }
 }
+
 pub mod internal_methods {
     use crate::{
         Context, JsObject, JsResult, JsValue,

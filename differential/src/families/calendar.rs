@@ -3,7 +3,7 @@
 
 use super::Family;
 use crate::case::Case;
-use crate::inputs::{UTC, YEARS, odd_bits, time_bits};
+use crate::inputs::{LAST, UTC, YEARS, odd_bits, time_bits};
 use crate::lower::door;
 use crate::run::Run;
 use crate::whole;
@@ -39,7 +39,7 @@ fn times(run: &mut Run) {
         let beyond = run.random.between(-86_399_000, 86_399_000);
         let word = match run.random.below(3) {
             0 => time_bits(&mut run.random, &UTC),
-            1 => ((8_640_000_000_000_000 + beyond) as f64).to_bits(),
+            1 => ((run.random.pick(&[LAST, -LAST]) + beyond) as f64).to_bits(),
             _ => (run.random.between(-(1 << 53), 1 << 53) as f64).to_bits(),
         };
         all(run, &OF_TIME, word);

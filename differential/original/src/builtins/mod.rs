@@ -1,6 +1,7 @@
 //! What the date module names of Boa's built-ins. Nothing is registered anywhere.
 
 include!(concat!(env!("OUT_DIR"), "/date.rs"));
+
 use crate::{
     Context, JsObject, JsResult, JsString, JsValue,
     context::intrinsics::{Intrinsics, StandardConstructor, StandardConstructors},
@@ -8,6 +9,7 @@ use crate::{
     property::{Attribute, PropertyKey},
     realm::Realm,
 };
+
 use std::marker::PhantomData;
 
 pub mod promise {
@@ -18,15 +20,18 @@ pub mod promise {
         Handle,
     }
 }
+
 pub use promise::Promise;
 
 pub trait IntrinsicObject {
     fn init(realm: &Realm);
     fn get(intrinsics: &Intrinsics) -> JsObject;
 }
+
 pub trait BuiltInObject: IntrinsicObject {
     const NAME: JsString;
 }
+
 pub trait BuiltInConstructor: BuiltInObject {
     const CONSTRUCTOR_ARGUMENTS: usize;
     const PROTOTYPE_STORAGE_SLOTS: usize;
@@ -38,7 +43,9 @@ pub trait BuiltInConstructor: BuiltInObject {
         context: &mut Context,
     ) -> JsResult<JsValue>;
 }
+
 pub struct BuiltInBuilder;
+
 impl BuiltInBuilder {
     pub fn callable(_: &Realm, f: NativeFn) -> Callable {
         Callable(f)
@@ -47,7 +54,9 @@ impl BuiltInBuilder {
         Methods(PhantomData)
     }
 }
+
 pub struct Callable(NativeFn);
+
 impl Callable {
     pub fn name(self, _: JsString) -> Self {
         self
@@ -59,7 +68,9 @@ impl Callable {
         JsFunction(self.0)
     }
 }
+
 pub struct Methods<T>(PhantomData<T>);
+
 impl<T> Methods<T> {
     pub fn method(self, _: NativeFn, _: JsString, _: usize) -> Self {
         self

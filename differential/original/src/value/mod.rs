@@ -1,3 +1,6 @@
+//! Values: those that the date module takes and gives. Conversions to numbers stay in Boa; here a
+//! number is already one.
+
 mod integer;
 use crate::{Context, JsObject, JsResult, JsString};
 pub use integer::IntegerOrInfinity;
@@ -64,13 +67,25 @@ impl JsValue {
         unimplemented!()
     }
 }
-macro_rules! nums { ($($t:ty),*) => { $(impl From<$t> for JsValue { fn from(x: $t) -> Self { Self::Number(x as f64) } })* } }
-nums!(f64, i32, u8, u16, i64);
+
+/// Every number is an f64.
+macro_rules! numbers {
+    ($($t:ty),*) => {
+        $(impl From<$t> for JsValue {
+            fn from(x: $t) -> Self {
+                Self::Number(x as f64)
+            }
+        })*
+    };
+}
+numbers!(f64, i32, u8, u16, i64);
+
 impl From<JsString> for JsValue {
     fn from(s: JsString) -> Self {
         Self::String(s)
     }
 }
+
 impl From<JsObject> for JsValue {
     fn from(s: JsObject) -> Self {
         Self::Object(s)

@@ -33,6 +33,7 @@ impl<'a> JsStr<'a> {
 
 #[derive(Debug)]
 pub struct StaticString(JsStr<'static>);
+
 impl StaticString {
     pub const fn new(s: JsStr<'static>) -> Self {
         Self(s)
@@ -114,6 +115,7 @@ impl From<JsStr<'_>> for JsString {
         }
     }
 }
+
 impl From<&str> for JsString {
     fn from(s: &str) -> Self {
         if s.is_ascii() {
@@ -123,21 +125,25 @@ impl From<&str> for JsString {
         }
     }
 }
+
 impl<'a> From<&'a JsString> for JsStr<'a> {
     fn from(s: &'a JsString) -> Self {
         s.as_str()
     }
 }
+
 impl PartialEq for JsString {
     fn eq(&self, o: &Self) -> bool {
         self.to_std_string_lossy() == o.to_std_string_lossy()
     }
 }
+
 impl PartialEq<str> for JsString {
     fn eq(&self, o: &str) -> bool {
         self.to_std_string_lossy() == o
     }
 }
+
 impl PartialEq<&str> for JsString {
     fn eq(&self, o: &&str) -> bool {
         self.to_std_string_lossy() == *o
@@ -145,6 +151,7 @@ impl PartialEq<&str> for JsString {
 }
 
 pub struct StaticJsStrings;
+
 impl StaticJsStrings {
     pub const DATE: JsString = {
         const S: StaticString = StaticString::new(JsStr::latin1(b"Date"));
