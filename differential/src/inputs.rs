@@ -105,7 +105,7 @@ pub fn broken_list(r: &mut Random) -> Vec<u8> {
 pub fn time(r: &mut Random, list: &[Record]) -> i64 {
     if r.once_in(3) {
         let (second, offset) = r.pick(list);
-        if second.abs() < 8_640_000_086_400 {
+        if second.unsigned_abs() < 8_640_000_086_400 {
             let shift = r.pick(&[0, i64::from(offset), -i64::from(offset)]);
             let near = second + shift + r.pick(&[0, 0, -1, 1]);
             return (near * 1000 + r.pick(&[0, 0, -1, 1, 999])).clamp(-LAST, LAST);

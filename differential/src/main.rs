@@ -40,6 +40,8 @@ struct Options {
     only: Option<String>,
     /// Of a sample: how many cases of each function and number a family gives.
     each: usize,
+    /// Of a sample: the tags, all where there is none.
+    tags: Vec<String>,
     mode: Mode,
 }
 
@@ -48,6 +50,7 @@ enum Mode {
     Case(String),
     Bite,
     Sample(String),
+    Stored(String),
     List,
 }
 
@@ -55,12 +58,20 @@ enum Mode {
 const QUICK: u64 = 4;
 
 const USAGE: &str = "words: [--quick | --long N] [--seed S] [--threads N] [--only FAMILY] \
-                     [--case LINE | --bite | --sample FOLDER [--each N] | --list]";
+                     [--case LINE | --bite | --sample FOLDER [--each N] [--tags A,B] | \
+                     --stored FOLDER | --list]";
 
 fn options() -> Result<Options, String> {
     let threads = std::thread::available_parallelism().map_or(1, |n| n.get());
-    let mut options =
-        Options { seed: 1, scale: QUICK, threads, only: None, each: 24, mode: Mode::Compare };
+    let mut options = Options {
+        seed: 1,
+        scale: QUICK,
+        threads,
+        only: None,
+        each: 24,
+        tags: Vec::new(),
+        mode: Mode::Compare,
+    };
     let mut words = std::env::args().skip(1);
     while let Some(word) = words.next() {
         let mut next = || words.next().ok_or(format!("{word} needs a word after it"));
@@ -74,6 +85,8 @@ fn options() -> Result<Options, String> {
             "--case" => options.mode = Mode::Case(next()?),
             "--bite" => options.mode = Mode::Bite,
             "--sample" => options.mode = Mode::Sample(next()?),
+            "--stored" => options.mode = Mode::Stored(next()?),
+            "--tags" => options.tags = next()?.split(',').map(str::to_string).collect(),
             "--each" => options.each = number(next()?)? as usize,
             "--list" => options.mode = Mode::List,
             _ => return Err(USAGE.into()),
@@ -87,7 +100,8 @@ fn main() -> ExitCode {
         Mode::Compare => Ok(compare(&options)),
         Mode::Case(line) => run::replay(line, &Library),
         Mode::Bite => Ok(bite::all(options.seed, options.threads)),
-        Mode::Sample(folder) => sample::write(folder, options.seed, options.each),
+        Mode::Sample(folder) => sample::write(folder, options.seed, options.each, &options.tags),
+        Mode::Stored(folder) => sample::check(folder),
         Mode::List => {
             families::all().iter().for_each(|family| println!("{}", family.name));
             Ok(true)

@@ -5,6 +5,7 @@ use crate::expected::{Expected, RIGHT, Sides, expected, expected_by};
 use crate::library::{Nothing, Subject};
 use crate::outcome::Outcome;
 use crate::random::Random;
+use std::panic::catch_unwind;
 use std::time::{Duration, Instant};
 
 /// A failure: the case's line and what is wrong with it.
@@ -120,7 +121,11 @@ impl<'a> Run<'a> {
         }
         self.tally.cases += 1;
         self.show_progress();
-        match expected_by(self.sides, case) {
+        let sides = self.sides;
+        let Ok(due) = catch_unwind(|| expected_by(sides, case)) else {
+            return self.fail(case.line(), "STOPPED: the original, or the reading of 01".into());
+        };
+        match due {
             Expected::Unclaimed => self.tally.unclaimed += 1,
             Expected::Parting(what) => self.fail(case.line(), format!("PARTING: {what}")),
             Expected::Outcome(outcome) => {

@@ -1,7 +1,8 @@
-//! A stored sample of the original's answers, for a replay with no Rust at hand: two files, one
-//! line a case, the answer on the line of the same number.
+//! A stored sample of the original's answers, for a replay with no Rust at hand: the file `stdin`
+//! has one line a case, the file `stdout` the answer on the line of the same number.
 
-use crate::case::{Case, tags};
+use crate::case::{Case, Line, tags};
+use crate::expected::expected;
 use crate::families;
 use crate::outcome::Outcome;
 use crate::run::Run;
@@ -12,16 +13,17 @@ use std::path::Path;
 /// No line is longer than this, so that a reader needs no more room.
 const LONGEST: usize = 1024;
 
-/// Every family gives its cases; of each function and each number the first `each` of every
-/// family are kept, in the order of the functions, no line twice.
-pub fn write(folder: &str, seed: u64, each: usize) -> Result<bool, String> {
+/// Every family gives its cases; of each function and each number up to `each` of every family are
+/// kept, in the order of the functions, no line twice. `only` names the tags, all where it is empty.
+pub fn write(folder: &str, seed: u64, each: usize, only: &[String]) -> Result<bool, String> {
     let mut kept: BTreeMap<&str, Vec<(String, String)>> = BTreeMap::new();
     for family in families::all() {
         gather(family, seed, each, &mut kept);
     }
     let (mut inputs, mut answers) = (String::new(), String::new());
     let mut counts = Vec::new();
-    for tag in tags() {
+    let wanted = |tag: &&str| only.is_empty() || only.iter().any(|name| name == tag);
+    for tag in tags().into_iter().filter(wanted) {
         let lines = kept.remove(tag).unwrap_or_default();
         counts.push(format!("{tag} {}", lines.len()));
         for (input, answer) in lines {
@@ -33,8 +35,8 @@ pub fn write(folder: &str, seed: u64, each: usize) -> Result<bool, String> {
     let put = |name: &str, text: &str| {
         fs::write(folder.join(name), text).map_err(|e| format!("{name}: {e}"))
     };
-    put("inputs", &inputs)?;
-    put("answers", &answers)?;
+    put("stdin", &inputs)?;
+    put("stdout", &answers)?;
     println!("{} cases: {}", inputs.lines().count(), counts.join(", "));
     Ok(counts.iter().all(|count| !count.ends_with(" 0")))
 }
@@ -67,4 +69,23 @@ fn gather(
     };
     let mut run = Run::collecting(family.name, seed, &mut collector);
     (family.run)(&mut run);
+}
+
+/// Holds a stored sample to the original once more: true where every answer is still its.
+pub fn check(folder: &str) -> Result<bool, String> {
+    let get = |name: &str| {
+        fs::read_to_string(Path::new(folder).join(name)).map_err(|e| format!("{name}: {e}"))
+    };
+    let (inputs, answers) = (get("stdin")?, get("stdout")?);
+    let mut wrong = usize::from(inputs.lines().count() != answers.lines().count());
+    for (input, answer) in inputs.lines().zip(answers.lines()) {
+        let line = Line::parse(input)?;
+        let due = expected(&line.case()?).outcome().map(|outcome| outcome.line());
+        if due.as_deref() != Some(answer) {
+            println!("stored {answer}, due {due:?}\n    differential/run --case '{input}'");
+            wrong += 1;
+        }
+    }
+    println!("{} stored answers, {wrong} wrong", inputs.lines().count());
+    Ok(wrong == 0)
 }

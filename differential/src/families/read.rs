@@ -227,7 +227,7 @@ fn records(run: &mut Run) {
         let list =
             if round == 0 { long_list(&mut run.random, 1024) } else { list(&mut run.random) };
         let zone = &list_bytes(&list);
-        for &(second, offset) in list.iter().filter(|r| r.0.abs() < 8_700_000_000_000) {
+        for &(second, offset) in list.iter().filter(|r| r.0.unsigned_abs() < 8_700_000_000_000) {
             for shift in [0, offset, -offset] {
                 for ms in [-1000, -1, 0, 1, 1000] {
                     let t = (i128::from(second) + i128::from(shift)) * 1000 + ms;

@@ -3,13 +3,15 @@
 use super::Family;
 use crate::case::Case;
 use crate::expected::expected;
-use crate::inputs::{UTC, list, list_bytes};
+use crate::inputs::{UTC, list, list_bytes, time};
 use crate::run::Run;
 use crate::texts::{damaged, every_form, form};
+use crate::whole;
 
 pub const FAMILIES: &[Family] = &[
     Family { name: "rewrite_lengths", run: lengths },
     Family { name: "rewrite_random", run: random },
+    Family { name: "rewrite_pairs", run: pairs },
 ];
 
 /// Every form, and one of each refusal, into outputs of every length 0 to 40.
@@ -58,4 +60,32 @@ fn again(run: &mut Run, case: &Case) {
     run.check(&second);
     let same = expected(&second).outcome().as_ref() == Some(&first);
     run.fact(same, || format!("rewritten again it differs: {}", case.line()));
+}
+
+/// Two texts under one list rewrite to equal bytes exactly when they denote one instant: an ISO
+/// text, and a text with an offset for the same moment or one beside it.
+fn pairs(run: &mut Run) {
+    let out = &[b'~'; 27];
+    for _ in 0..run.times(50_000) {
+        let list = list(&mut run.random);
+        let zone = &list_bytes(&list);
+        let t = i128::from(time(&mut run.random, &list));
+        let minutes = run.random.between(-1439, 1439);
+        let beside = i128::from(run.random.pick(&[0, 0, 1, -1, 60_000]));
+        let mut other = whole::iso_text(t + beside + 60_000 * i128::from(minutes));
+        other.pop();
+        let sign = if minutes < 0 { '-' } else { '+' };
+        other += &format!("{sign}{:02}:{:02}", minutes.abs() / 60, minutes.abs() % 60);
+        let first = whole::iso_text(t);
+        let cases =
+            [first.as_bytes(), other.as_bytes()].map(|text| Case::Rewrite { zone, text, out });
+        cases.iter().for_each(|case| run.check(case));
+        let written = cases.map(|case| expected(&case).outcome());
+        let [Some(a), Some(b)] = written else {
+            continue;
+        };
+        let equal = a.out[..a.length] == b.out[..b.length];
+        let holds = b.number != 0 || equal == (beside == 0);
+        run.fact(holds, || format!("{first} and {other}"));
+    }
 }
