@@ -33,27 +33,67 @@ type Bytes = *const u8;
 type Output = *mut u8;
 
 linked! {
-    "zovattha_read" zovattha_read(zone: Bytes, zone_len: usize, text: Bytes, text_len: usize) -> Answer;
-    "zovattha_rewrite" zovattha_rewrite(zone: Bytes, zone_len: usize, text: Bytes, text_len: usize, out: Output, out_len: usize) -> Answer;
-    "zovattha_to_iso_string" zovattha_to_iso_string(time: u64, out: Output, out_len: usize) -> Answer;
-    "zovattha_to_utc_string" zovattha_to_utc_string(time: u64, out: Output, out_len: usize) -> Answer;
-    "zovattha_to_string" zovattha_to_string(zone: Bytes, zone_len: usize, time: u64, out: Output, out_len: usize) -> Answer;
+    "zovattha_read" zovattha_read(
+        zone: Bytes, zone_len: usize, text: Bytes, text_len: usize
+    ) -> Answer;
+    "zovattha_rewrite" zovattha_rewrite(
+        zone: Bytes, zone_len: usize, text: Bytes, text_len: usize, out: Output, out_len: usize
+    ) -> Answer;
+    "zovattha_to_iso_string" zovattha_to_iso_string(
+        time: u64, out: Output, out_len: usize
+    ) -> Answer;
+    "zovattha_to_utc_string" zovattha_to_utc_string(
+        time: u64, out: Output, out_len: usize
+    ) -> Answer;
+    "zovattha_to_string" zovattha_to_string(
+        zone: Bytes, zone_len: usize, time: u64, out: Output, out_len: usize
+    ) -> Answer;
     "zovattha_build_utc" zovattha_build_utc(record: Bytes, record_len: usize) -> Answer;
-    "zovattha_build_local" zovattha_build_local(zone: Bytes, zone_len: usize, record: Bytes, record_len: usize) -> Answer;
-    "zovattha_set_utc_milliseconds" zovattha_set_utc_milliseconds(time: u64, record: Bytes, record_len: usize) -> Answer;
-    "zovattha_set_utc_seconds" zovattha_set_utc_seconds(time: u64, record: Bytes, record_len: usize) -> Answer;
-    "zovattha_set_utc_minutes" zovattha_set_utc_minutes(time: u64, record: Bytes, record_len: usize) -> Answer;
-    "zovattha_set_utc_hours" zovattha_set_utc_hours(time: u64, record: Bytes, record_len: usize) -> Answer;
-    "zovattha_set_utc_date" zovattha_set_utc_date(time: u64, record: Bytes, record_len: usize) -> Answer;
-    "zovattha_set_utc_month" zovattha_set_utc_month(time: u64, record: Bytes, record_len: usize) -> Answer;
-    "zovattha_set_utc_full_year" zovattha_set_utc_full_year(time: u64, record: Bytes, record_len: usize) -> Answer;
-    "zovattha_set_milliseconds" zovattha_set_milliseconds(zone: Bytes, zone_len: usize, time: u64, record: Bytes, record_len: usize) -> Answer;
-    "zovattha_set_seconds" zovattha_set_seconds(zone: Bytes, zone_len: usize, time: u64, record: Bytes, record_len: usize) -> Answer;
-    "zovattha_set_minutes" zovattha_set_minutes(zone: Bytes, zone_len: usize, time: u64, record: Bytes, record_len: usize) -> Answer;
-    "zovattha_set_hours" zovattha_set_hours(zone: Bytes, zone_len: usize, time: u64, record: Bytes, record_len: usize) -> Answer;
-    "zovattha_set_date" zovattha_set_date(zone: Bytes, zone_len: usize, time: u64, record: Bytes, record_len: usize) -> Answer;
-    "zovattha_set_month" zovattha_set_month(zone: Bytes, zone_len: usize, time: u64, record: Bytes, record_len: usize) -> Answer;
-    "zovattha_set_full_year" zovattha_set_full_year(zone: Bytes, zone_len: usize, time: u64, record: Bytes, record_len: usize) -> Answer;
+    "zovattha_build_local" zovattha_build_local(
+        zone: Bytes, zone_len: usize, record: Bytes, record_len: usize
+    ) -> Answer;
+    "zovattha_set_utc_milliseconds" zovattha_set_utc_milliseconds(
+        time: u64, record: Bytes, record_len: usize
+    ) -> Answer;
+    "zovattha_set_utc_seconds" zovattha_set_utc_seconds(
+        time: u64, record: Bytes, record_len: usize
+    ) -> Answer;
+    "zovattha_set_utc_minutes" zovattha_set_utc_minutes(
+        time: u64, record: Bytes, record_len: usize
+    ) -> Answer;
+    "zovattha_set_utc_hours" zovattha_set_utc_hours(
+        time: u64, record: Bytes, record_len: usize
+    ) -> Answer;
+    "zovattha_set_utc_date" zovattha_set_utc_date(
+        time: u64, record: Bytes, record_len: usize
+    ) -> Answer;
+    "zovattha_set_utc_month" zovattha_set_utc_month(
+        time: u64, record: Bytes, record_len: usize
+    ) -> Answer;
+    "zovattha_set_utc_full_year" zovattha_set_utc_full_year(
+        time: u64, record: Bytes, record_len: usize
+    ) -> Answer;
+    "zovattha_set_milliseconds" zovattha_set_milliseconds(
+        zone: Bytes, zone_len: usize, time: u64, record: Bytes, record_len: usize
+    ) -> Answer;
+    "zovattha_set_seconds" zovattha_set_seconds(
+        zone: Bytes, zone_len: usize, time: u64, record: Bytes, record_len: usize
+    ) -> Answer;
+    "zovattha_set_minutes" zovattha_set_minutes(
+        zone: Bytes, zone_len: usize, time: u64, record: Bytes, record_len: usize
+    ) -> Answer;
+    "zovattha_set_hours" zovattha_set_hours(
+        zone: Bytes, zone_len: usize, time: u64, record: Bytes, record_len: usize
+    ) -> Answer;
+    "zovattha_set_date" zovattha_set_date(
+        zone: Bytes, zone_len: usize, time: u64, record: Bytes, record_len: usize
+    ) -> Answer;
+    "zovattha_set_month" zovattha_set_month(
+        zone: Bytes, zone_len: usize, time: u64, record: Bytes, record_len: usize
+    ) -> Answer;
+    "zovattha_set_full_year" zovattha_set_full_year(
+        zone: Bytes, zone_len: usize, time: u64, record: Bytes, record_len: usize
+    ) -> Answer;
 }
 
 type SetUtc = unsafe extern "C" fn(u64, Bytes, usize) -> Answer;

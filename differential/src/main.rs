@@ -38,6 +38,7 @@ struct Options {
     scale: u64,
     threads: usize,
     only: Option<String>,
+    trace: bool,
     /// Of a sample: how many cases of each function and number a family gives.
     each: usize,
     /// Of a sample: the tags, all where there is none.
@@ -55,9 +56,10 @@ enum Mode {
 }
 
 /// The quick run's scale: well below a minute on two cores.
-const QUICK: u64 = 4;
+const QUICK: u64 = 3;
 
 const USAGE: &str = "words: [--quick | --long N] [--seed S] [--threads N] [--only FAMILY] \
+                     [--trace] \
                      [--case LINE | --bite | --sample FOLDER [--each N] [--tags A,B] | \
                      --stored FOLDER | --list]";
 
@@ -68,6 +70,7 @@ fn options() -> Result<Options, String> {
         scale: QUICK,
         threads,
         only: None,
+        trace: false,
         each: 24,
         tags: Vec::new(),
         mode: Mode::Compare,
@@ -82,6 +85,7 @@ fn options() -> Result<Options, String> {
             "--seed" => options.seed = number(next()?)?,
             "--threads" => options.threads = number(next()?)?.max(1) as usize,
             "--only" => options.only = Some(next()?),
+            "--trace" => options.trace = true,
             "--case" => options.mode = Mode::Case(next()?),
             "--bite" => options.mode = Mode::Bite,
             "--sample" => options.mode = Mode::Sample(next()?),
@@ -151,7 +155,8 @@ fn run_all(
             scope.spawn(|| {
                 while let Some(family) = families.get(next.fetch_add(1, Ordering::Relaxed)) {
                     let start = Instant::now();
-                    let mut run = Run::new(family.name, options.seed, options.scale, subject);
+                    let mut run = Run::new(family.name, options.seed, options.scale, subject)
+                        .traced(options.trace);
                     (family.run)(&mut run);
                     finished(*family, run.tally, start);
                 }
@@ -185,7 +190,10 @@ fn compare(options: &Options) -> bool {
         sum.failed,
         start.elapsed().as_secs_f64()
     );
-    sum.failed == 0
+    if sum.cases + sum.facts == 0 {
+        println!("no family has a name that begins so");
+    }
+    sum.failed == 0 && sum.cases + sum.facts > 0
 }
 
 /// A family's counts, and its smallest failures with the words that replay them.
@@ -197,7 +205,7 @@ fn show_family(family: Family, tally: &Tally, start: Instant) {
         family.name
     );
     for failure in tally.smallest().iter().take(5) {
-        text += &format!("\n  {}\n    differential/run --case '{}'", failure.what, failure.line);
+        text += &format!("\n  {}\n    {}", failure.what, failure.how_to_replay());
     }
     println!("{text}");
 }

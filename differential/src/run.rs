@@ -8,11 +8,21 @@ use crate::random::Random;
 use std::panic::catch_unwind;
 use std::time::{Duration, Instant};
 
-/// A failure: the case's line and what is wrong with it.
+/// A failure: the case's line, or a fact's words, and what is wrong with it.
 #[derive(Clone, Debug)]
 pub struct Failure {
     pub line: String,
     pub what: String,
+}
+
+impl Failure {
+    /// The command that replays a case; of a fact, its words.
+    pub fn how_to_replay(&self) -> String {
+        match Line::parse(&self.line) {
+            Ok(line) if line.case().is_ok() => format!("differential/run --case '{}'", self.line),
+            _ => self.line.clone(),
+        }
+    }
 }
 
 /// How many of a family's failures are kept: the smallest ones.
@@ -70,6 +80,8 @@ pub struct Run<'a> {
     name: &'static str,
     /// How many times the quick run's random cases.
     scale: u64,
+    /// Say each case before the subject is asked.
+    trace: bool,
     /// Stop at the first failure.
     first_only: bool,
     /// Where each case goes besides, with its expected outcome.
@@ -86,6 +98,7 @@ impl<'a> Run<'a> {
             sides: &RIGHT,
             name,
             scale,
+            trace: false,
             first_only: false,
             collector: None,
             shown: Instant::now(),
@@ -95,6 +108,13 @@ impl<'a> Run<'a> {
     /// The oracle alone, each case handed on with its outcome.
     pub fn collecting(name: &'static str, seed: u64, collector: Collector<'a>) -> Self {
         Self { collector: Some(collector), ..Self::new(name, seed, 1, &Nothing) }
+    }
+
+    /// Says each case before the subject is asked: where the archive's code ends the process, the
+    /// last line is the case.
+    pub fn traced(mut self, trace: bool) -> Self {
+        self.trace = trace;
+        self
     }
 
     /// For a bite: by sides that may be wrong, to the first failure.
@@ -138,6 +158,9 @@ impl<'a> Run<'a> {
     }
 
     fn compare(&mut self, case: &Case, outcome: &Outcome) {
+        if self.trace {
+            eprintln!("{}", case.line());
+        }
         let Some(answered) = self.subject.answer(case) else {
             return;
         };

@@ -14,7 +14,7 @@ use std::path::Path;
 const LONGEST: usize = 1024;
 
 /// Every family gives its cases; of each function and each number up to `each` of every family are
-/// kept, in the order of the functions, no line twice. `only` names the tags, all where it is empty.
+/// kept, in the order of the functions, no line twice. `only` names the tags; empty, it means all.
 pub fn write(folder: &str, seed: u64, each: usize, only: &[String]) -> Result<bool, String> {
     let mut kept: BTreeMap<&str, Vec<(String, String)>> = BTreeMap::new();
     for family in families::all() {
