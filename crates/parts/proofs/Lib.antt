@@ -1,3 +1,3 @@
 mod Bridge
-mod Years
+pub mod Years
 mod Together

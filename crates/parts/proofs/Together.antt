@@ -16,7 +16,7 @@ use Rattle.float.specs.Whole.{IsWhole}
 use Rattle.calendar.specs.Calendar.{yearFromTimeF, monthFromTimeF, dateFromTimeF, weekDayF, hourFromTimeF, minFromTimeF, secFromTimeF, msFromTimeF}
 use Rattle.calendar.proofs.Whole.{year-from-time-whole, month-from-time-whole, date-from-time-whole, week-day-whole, hour-from-time-whole, min-from-time-whole, sec-from-time-whole, ms-from-time-whole}
 use Rattle.calendar.proofs.Table.{date-number}
-use Rattle.parts.proofs.Years.{leap-counted}
+use Rattle.parts.proofs.Years.{leap-here}
 
 module _ {t : Float} {z : ℤ} (w : IsWhole t z) (h : Shown z) where
   -- ---- the clock, from the time m within the day
@@ -50,7 +50,7 @@ module _ {t : Float} {z : ℤ} (w : IsWhole t z) (h : Shown z) where
 
     module _ (l : ℕ) (leap : l ≡ leapOf (pos (y + 1))) where
       pub leap-is : l ≡ InLeapYear z
-      leap-is = leap ∙ leap-counted (YearFromTime z) y year
+      leap-is = leap ∙ leap-here (YearFromTime z) y year
 
       pub leap-flag : l ≤ 1
       leap-flag = subst (λ (n : ℕ). n ≤ 1) (sym leap-is) (leap-small (YearFromTime z))

@@ -46,16 +46,17 @@ fn estimate(t: f64) -> u32
     (float::floor((t + 15_778_476_000.0) / 31_556_952_000.0) + 401_969.0) as u32
 }
 
-// The first day of the year z, both counted as above.
-fn first_day(z: u32) -> u32
-    requires { ⌜ z ≤ 1_000_000 ⌝ }
+// The first day of the year z, both counted from as many cycles of 400 years back: with z for the year y + 400 k - 1 it is
+// DayFromYear(y) + 146,097 k + 719,162.
+pub fn first_day(z: u32) -> u32
+    requires { ⌜ z ≤ 10_000_000 ⌝ }
     ensures { λ r. ⌜ r ≡ 365 * z + z / 4 - z / 100 + z / 400 ⌝ }
 {
     365 * z + z / 4 - z / 100 + z / 400
 }
 
 // 1 for a leap year, else 0.
-fn leap(y: u32) -> u32
+pub fn leap(y: u32) -> u32
     ensures { λ r. ⌜ r ≡ leapOf (pos y) ⌝ }
 {
     if y % 400 == 0 {
