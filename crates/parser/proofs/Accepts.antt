@@ -132,3 +132,37 @@ form-unique text f g a b =
     let p = printed-read text f a in
     let q = printed-read text g b in
     cc
+
+-- ---- how long a text can be
+
+year-length : (y : Year) → length (printsYear y) ≤ 7
+year-length (four y) = omega arith
+year-length (six n y) = omega arith
+
+date-length : (d : Date) → length (printsDate d) ≤ 6
+date-length toYear = omega arith
+date-length (toMonth m) = omega arith
+date-length (toDay m d) = omega arith
+
+time-length : (t : Time) → length (printsTime t) ≤ 12
+time-length (Time.toMinute h m) = omega arith
+time-length (toSecond h m s) = omega arith
+time-length (toDecimals h m s ms) = omega arith
+
+zone-length : (z : Zone) → length (printsZone z) ≤ 6
+zone-length absent = omega arith
+zone-length zulu = omega arith
+zone-length (toHour n h) = omega arith
+zone-length (Zone.toMinute n h m) = omega arith
+
+pub prints-length : (f : Form) → length (prints f) ≤ 32
+prints-length (date y d) = simp length-append (omega (arith, year-length y, date-length d))
+prints-length (timed y d t z) = simp length-append (omega (arith, year-length y, date-length d, time-length t, zone-length z))
+
+-- no accepted text is longer than 32 bytes
+pub accepted-length : (text : List ℕ) (f : Form) → read text ≡ form f → length text ≤ 32
+accepted-length text f e = rw (sym (read-printed text f e .printed)) (prints-length f)
+
+-- and one is as long: +000000-01-01T00:00:00.000+00:00
+longest : length (prints (timed (six false 0) (toDay 1 1) (toDecimals 0 0 0 0) (Zone.toMinute false 0 0))) ≡ 32
+longest = refl

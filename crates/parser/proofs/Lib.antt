@@ -4,3 +4,5 @@ pub mod Steps
 pub mod Numbers
 pub mod Stages
 pub mod Accepts
+pub mod Prefix
+pub mod Exactly
