@@ -72,7 +72,7 @@ printsZone (Zone.toMinute negative h m) = sign negative ∷ digits 2 h ++ 58 ∷
 -- the time after its `T`
 abbrev pub prints : Form → List ℕ
 prints (date y d) = printsYear y ++ printsDate d
-prints (timed y d t z) = printsYear y ++ printsDate d ++ 84 ∷ printsTime t ++ printsZone z
+prints (timed y d t z) = printsYear y ++ (printsDate d ++ (84 ∷ (printsTime t ++ printsZone z)))
 
 -- ---- the fields: "an absent month or day 1 and any other absent field 0"
 

@@ -1,0 +1,133 @@
+-- What a caller of `parse` cites: its answer is fixed by the reading, and an accepted text's fields are within bounds. Assumes nothing.
+use mathlib.Core.Path.{_≡_, refl, sym, ap, _∙_}
+use mathlib.Core.Bool.{Bool, true, false}
+use mathlib.Core.List.{List}
+use Prim.Native.Nat.{ℕ, zero, suc, _≤_}
+use native.Mathlib.Omega.{arith}
+use lib.IntN.{natAbs}
+use Rattle.ecma262.specs.Format as format
+use Rattle.parser.specs.declared.Fault.{Fault}
+use Rattle.parser.specs.declared.Year.{Year}
+use Rattle.parser.specs.declared.Year.the-variants.{Four, Six}
+use Rattle.parser.specs.declared.Date.{Date}
+use Rattle.parser.specs.declared.Date.the-variants.{ToYear, ToMonth, ToDay}
+use Rattle.parser.specs.declared.Time.{Time}
+use Rattle.parser.specs.declared.Time.the-variants as T
+use Rattle.parser.specs.declared.Zone.{Zone}
+use Rattle.parser.specs.declared.Zone.the-variants as Z
+use Rattle.parser.specs.declared.Form.{Form}
+use Rattle.parser.specs.declared.Form.the-variants as F
+use Rattle.parser.specs.declared.Parsed.{Parsed}
+use Rattle.parser.specs.declared.Parsed.the-variants as P
+use Rattle.parser.specs.Reading.{Reading, form, refused, read}
+use Rattle.parser.specs.Answer.{asYear, asDate, asTime, asZone, asForm, asReading}
+use Rattle.parser.proofs.Accepts.{read-printed}
+
+-- ---- the code's value of a form, and back: no two answers say the same
+
+yearValue : format.Year → Year
+yearValue (format.Year.four y) = Four y
+yearValue (format.Year.six n y) = Six n y
+
+year-value : (y : Year) → yearValue (asYear y) ≡ y
+unfolding yearValue
+year-value (Four y) = refl
+year-value (Six n y) = refl
+
+dateValue : format.Date → Date
+dateValue format.Date.toYear = ToYear
+dateValue (format.Date.toMonth m) = ToMonth m
+dateValue (format.Date.toDay m d) = ToDay m d
+
+date-value : (d : Date) → dateValue (asDate d) ≡ d
+unfolding dateValue
+date-value ToYear = refl
+date-value (ToMonth m) = refl
+date-value (ToDay m d) = refl
+
+timeValue : format.Time → Time
+timeValue (format.Time.toMinute h m) = T.ToMinute h m
+timeValue (format.Time.toSecond h m s) = T.ToSecond h m s
+timeValue (format.Time.toDecimals h m s ms) = T.ToDecimals h m s ms
+
+time-value : (t : Time) → timeValue (asTime t) ≡ t
+unfolding timeValue
+time-value (T.ToMinute h m) = refl
+time-value (T.ToSecond h m s) = refl
+time-value (T.ToDecimals h m s ms) = refl
+
+zoneValue : format.Zone → Zone
+zoneValue format.Zone.absent = Z.Absent
+zoneValue format.Zone.zulu = Z.Zulu
+zoneValue (format.Zone.toHour n h) = Z.ToHour n h
+zoneValue (format.Zone.toMinute n h m) = Z.ToMinute n h m
+
+zone-value : (z : Zone) → zoneValue (asZone z) ≡ z
+unfolding zoneValue
+zone-value Z.Absent = refl
+zone-value Z.Zulu = refl
+zone-value (Z.ToHour n h) = refl
+zone-value (Z.ToMinute n h m) = refl
+
+answer : Reading → Parsed
+answer (form (format.Form.date y d)) = P.Read (F.Date (yearValue y) (dateValue d))
+answer (form (format.Form.timed y d t z)) = P.Read (F.Timed (yearValue y) (dateValue d) (timeValue t) (zoneValue z))
+answer (refused f) = P.Refused f
+
+answer-reading : (r : Parsed) → answer (asReading r) ≡ r
+unfolding answer
+answer-reading (P.Read (F.Date y d)) = rw (year-value y, date-value d)
+answer-reading (P.Read (F.Timed y d t z)) = rw (year-value y, date-value d, time-value t, zone-value z)
+answer-reading (P.Refused f) = refl
+
+-- two answers of which the contract of `parse` holds on one text are equal
+pub answer-unique : (r q : Parsed) → asReading r ≡ asReading q → r ≡ q
+answer-unique r q e = sym (answer-reading r) ∙ ap answer e ∙ answer-reading q
+
+-- ---- an accepted text
+
+-- the answer `Read f`: f writes the text
+pub accepted-writes : (text : List ℕ) (r : Parsed) (f : Form) → asReading r ≡ read text → r ≡ P.Read f → format.Writes (asForm f) text
+accepted-writes text r f h e = read-printed text (asForm f) (sym h ∙ ap asReading e)
+
+-- its fields
+pub record Fields (f : format.Form) : Type 0 where
+  pub year-to : natAbs (format.year f) ≤ 999999
+  pub month-from : 1 ≤ format.month f
+  pub month-to : format.month f ≤ 12
+  pub day-from : 1 ≤ format.day f
+  pub day-to : format.day f ≤ 31
+  pub hour-to : format.hour f ≤ 24
+  pub minute-to : format.minute f ≤ 59
+  pub second-to : format.second f ≤ 59
+  pub ms-to : format.ms f ≤ 999
+
+year-to : (y : format.Year) → format.YearBounds y → natAbs (format.yearNumber y) ≤ 999999
+year-to (format.Year.four y) b = omega arith
+year-to (format.Year.six true zero) b = omega arith
+year-to (format.Year.six true (suc y)) b = b .1
+year-to (format.Year.six false y) b = b
+
+pub fields : (f : format.Form) → format.Bounds f → Fields f
+fields (format.Form.date y d) b = record {
+  year-to = year-to y (b .0);
+  month-from = b .1 .month-from;
+  month-to = b .1 .month-to;
+  day-from = b .1 .day-from;
+  day-to = b .1 .day-to;
+  hour-to = omega arith;
+  minute-to = omega arith;
+  second-to = omega arith;
+  ms-to = omega arith;
+}
+fields (format.Form.timed y d t z) b = record {
+  year-to = year-to y (b .0);
+  month-from = b .1 .month-from;
+  month-to = b .1 .month-to;
+  day-from = b .1 .day-from;
+  day-to = b .1 .day-to;
+  hour-to = b .2 .hour-to;
+  minute-to = b .2 .minute-to;
+  second-to = b .2 .second-to;
+  ms-to = b .2 .ms-to;
+}
