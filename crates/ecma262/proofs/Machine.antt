@@ -68,3 +68,24 @@ cast {w} {v} g x f a b =
   where
     read-back : toZ w (ofZ w (g (toZ w (ofZ w x)))) ≡ g x
     read-back = ap (λ z. toZ w (ofZ w (g z))) (kept f) ∙ kept a
+
+-- the same of a number that is first widened
+pub record Widened (v w : Width) (g : ℤ → ℤ) (x : ℤ) : Type 0 where
+  pub widened : SFits w (toZ v (ofZ v x))
+  pub made : SFits w (g (toZ w (ofZ w (toZ v (ofZ v x)))))
+  pub value : toZ w (ofZ w (g (toZ w (ofZ w (toZ v (ofZ v x)))))) ≡ g x
+
+pub widen : {v w : Width} (g : ℤ → ℤ) (x : ℤ) → SFits v x → SFits w x → SFits w (g x) → Widened v w g x
+widen {v} {w} g x f h k =
+    record {
+      widened = subst (SFits w) (sym (kept f)) h;
+      made = subst (λ z. SFits w (g z)) (sym same) k;
+      value = ap (λ z. toZ w (ofZ w (g z))) same ∙ kept k;
+    }
+  where
+    same : toZ w (ofZ w (toZ v (ofZ v x))) ≡ x
+    same = ap (λ z. toZ w (ofZ w z)) (kept f) ∙ kept h
+
+-- an i32 is an i64
+pub fits32-64 : {x : ℤ} → SFits w32 x → SFits w64 x
+fits32-64 f = record { sfits = omega (arith, f .sfits) }

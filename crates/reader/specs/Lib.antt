@@ -1,0 +1,2 @@
+pub mod Denotes
+pub mod Outcome
