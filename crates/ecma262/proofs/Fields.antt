@@ -10,8 +10,8 @@ use Rattle.ecma262.specs.Whole.{floorDiv, floorMod}
 use Rattle.ecma262.specs.Date.{Day, TimeWithinDay, DaysInYear, DayFromYear, TimeFromYear, YearFromTime, DayWithinYear, leapOf, InLeapYear, monthOf, MonthFromTime, dateOf, DateFromTime, HourFromTime, MinFromTime, SecFromTime, msFromTime, MakeTime, IsMakeDay, daysBefore, firstOfMonth, MakeDay, MakeDate, DaysInMonth, Fields, Valid, timeOf, fieldsOf}
 use Rattle.ecma262.proofs.Int.{plus, minus, ints, mod-small, natural, Term, at, _+ᵗ_, _-ᵗ_, _*ᵗ_, _ᵗ*_, _/ᵗ_, read}
 use Rattle.ecma262.proofs.Year.{year-start, year-end, year-of}
-use Rattle.ecma262.proofs.Leap.{next-day, days-of-leap}
-use Rattle.ecma262.proofs.Months.{month-small, month-from, month-upto, month-date, monthDays, month-nonempty, month-within, month-shifted, month-of}
+use Rattle.ecma262.proofs.Leap.{next-day, days-of-leap, leap-small}
+use Rattle.ecma262.proofs.Months.{month-small, month-from, month-upto, month-date, monthDays, month-nonempty, month-within, month-shifted, month-of, month-short}
 use Rattle.ecma262.proofs.Clock.{clock, make-time, make-date-parts, make-date-of, make-date-clock, hour-digit, min-digit, sec-digit, ms-digit}
 
 abbrev firstTerm : ℤ → ℕ → Term
@@ -54,9 +54,6 @@ by-year-day t y n e h =
     (year, subst (λ z. Day t -ℤ DayFromYear z ≡ pos n) (sym year) (omega (ints, read (at (Day t) -ᵗ at (DayFromYear y)), read (at (DayFromYear y) +ᵗ at (pos n)))))
 
 -- ---- the month and the date of a time
-leap-small : (y : ℤ) → leapOf y ≤ 1
-leap-small y = days-of-leap y .1
-
 month-at : (t : ℤ) → MonthFromTime t ≡ monthOf (InLeapYear t) (pos (yearDay t))
 month-at t = ap (monthOf (InLeapYear t)) (year-day t)
 
@@ -87,6 +84,11 @@ month-day t =
 
     hi : yearDay t < daysBefore (InLeapYear t) (monthOf (InLeapYear t) (pos (yearDay t)) + 1)
     hi = month-upto (InLeapYear t) (yearDay t) ls ns
+
+-- no date is above 31
+pub date-small : (t : ℤ) → natAbs (DateFromTime t) ≤ 31
+date-small t =
+    omega (arith, ap natAbs (month-day t .3), month-day t .2, month-short (InLeapYear t) (MonthFromTime t) (leap-small (YearFromTime t)) (month-range t))
 
 pub make-day-plain : (y : ℤ) (m : ℕ) (d : ℤ) → m < 12 → MakeDay y (pos m) d ≡ firstOfMonth y m +ℤ d -ℤ pos 1
 unfolding MakeDay

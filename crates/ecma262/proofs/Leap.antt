@@ -68,3 +68,6 @@ days-of-leap y = go (eqb (floorMod y 400) 0) (eqb (floorMod y 100) 0) (eqb (floo
     go false true c = (refl, omega arith)
     go false false true = (refl, omega arith)
     go false false false = (refl, omega arith)
+
+pub leap-small : (y : ℤ) → leapOf y ≤ 1
+leap-small y = days-of-leap y .1

@@ -1,5 +1,5 @@
 -- The machine's signed integers, for proofs by `omega`: a result fits, and what is read back from its bits is the number. Assumes nothing.
-use mathlib.Core.Path.{_≡_, refl, sym, ap, subst}
+use mathlib.Core.Path.{_≡_, refl, sym, ap, _∙_, subst}
 use mathlib.Core.Bool.{Bool, true, false, not}
 use Prim.Native.Nat.{ℕ, suc, _+_, _^_, _≤_, _<_}
 use native.Mathlib.Omega.{arith}
@@ -11,14 +11,14 @@ use mir.Val.{SFits, hbits, toZ, ofZ}
 use mir.Facts.{toZ-ofZ}
 use Rattle.ecma262.proofs.Int.{plus, minus}
 
-mag-below : (z : ℤ) (k : ℕ) → (plus z ≤ minus z + k) × (minus z ≤ plus z + k) → mag z ≤ k
+mag-below : (z : ℤ) (k : ℕ) → (plus z ≤ minus z + k) × (minus z ≤ plus z + suc k) → mag z ≤ k
 mag-below (pos n) k h = omega arith
 mag-below (negsuc n) k h = omega arith
 
-pub fits64 : (z : ℤ) → (plus z ≤ minus z + 9223372036854775807) × (minus z ≤ plus z + 9223372036854775807) → SFits w64 z
+pub fits64 : (z : ℤ) → (plus z ≤ minus z + 9223372036854775807) × (minus z ≤ plus z + 9223372036854775808) → SFits w64 z
 fits64 z h = record { sfits = omega (arith, mag-below z 9223372036854775807 h) }
 
-pub fits32 : (z : ℤ) → (plus z ≤ minus z + 2147483647) × (minus z ≤ plus z + 2147483647) → SFits w32 z
+pub fits32 : (z : ℤ) → (plus z ≤ minus z + 2147483647) × (minus z ≤ plus z + 2147483648) → SFits w32 z
 fits32 z h = record { sfits = omega (arith, mag-below z 2147483647 h) }
 
 -- a test, as a branch leaves it
@@ -48,3 +48,23 @@ lt-true {a} {b} e = ltZ-yes (true-T (ltZ a b) e)
 
 pub lt-false : {a b : ℤ} → ltZ a b ≡ false → b ≤ℤ a
 lt-false {a} {b} e = ltZ-no (false-T (ltZ a b) e)
+
+-- ---- a signed number that fits is read back from its bits; and so is what an operation g makes of it, cast to another width
+pub kept : {w : Width} {z : ℤ} → SFits w z → toZ w (ofZ w z) ≡ z
+kept f = toZ-ofZ f
+
+pub record Cast (w v : Width) (g : ℤ → ℤ) (x : ℤ) : Type 0 where
+  pub made : SFits w (g (toZ w (ofZ w x)))
+  pub taken : SFits v (toZ w (ofZ w (g (toZ w (ofZ w x)))))
+  pub value : toZ v (ofZ v (toZ w (ofZ w (g (toZ w (ofZ w x)))))) ≡ g x
+
+pub cast : {w v : Width} (g : ℤ → ℤ) (x : ℤ) → SFits w x → SFits w (g x) → SFits v (g x) → Cast w v g x
+cast {w} {v} g x f a b =
+    record {
+      made = subst (λ z. SFits w (g z)) (sym (kept f)) a;
+      taken = subst (SFits v) (sym read-back) b;
+      value = ap (λ z. toZ v (ofZ v z)) read-back ∙ kept b;
+    }
+  where
+    read-back : toZ w (ofZ w (g (toZ w (ofZ w x)))) ≡ g x
+    read-back = ap (λ z. toZ w (ofZ w (g z))) (kept f) ∙ kept a

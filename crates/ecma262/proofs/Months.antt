@@ -10,10 +10,10 @@ use Rattle.ecma262.proofs.Int.{plus, minus, eq-out}
 use Rattle.ecma262.proofs.Table.{all, all-at}
 
 -- a test that passes at every day of both years, and at every month of both years (leap is 0 or 1)
-each-day : (f : ℕ → ℕ → Bool) → T (all (λ l. all (f l) (365 + l)) 2) → (leap n : ℕ) → leap ≤ 1 → n < 365 + leap → T (f leap n)
+pub each-day : (f : ℕ → ℕ → Bool) → T (all (λ l. all (f l) (365 + l)) 2) → (leap n : ℕ) → leap ≤ 1 → n < 365 + leap → T (f leap n)
 each-day f t leap n h k = all-at (f leap) (365 + leap) (all-at (λ l. all (f l) (365 + l)) 2 t leap (omega arith)) n k
 
-each-month : (f : ℕ → ℕ → Bool) → T (all (λ l. all (f l) 12) 2) → (leap m : ℕ) → leap ≤ 1 → m < 12 → T (f leap m)
+pub each-month : (f : ℕ → ℕ → Bool) → T (all (λ l. all (f l) 12) 2) → (leap m : ℕ) → leap ≤ 1 → m < 12 → T (f leap m)
 each-month f t leap m h k = all-at (f leap) 12 (all-at (λ l. all (f l) 12) 2 t leap (omega arith)) m k
 
 -- ---- the day n of a year, from 0, lies in the month that monthOf says, and dateOf is its number there
@@ -49,6 +49,10 @@ module _ (leap m : ℕ) (h : leap ≤ 1) (k : m < 12) where
   pub month-nonempty : daysBefore leap m < daysBefore leap (m + 1)
   unfolding daysBefore
   month-nonempty = ltb→lt _ _ (each-month (λ l m. ltb (daysBefore l m) (daysBefore l (m + 1))) tt leap m h k)
+
+  pub month-short : daysBefore leap (m + 1) ≤ daysBefore leap m + 31
+  unfolding daysBefore
+  month-short = leb→le _ _ (each-month (λ l m. leb (daysBefore l (m + 1)) (daysBefore l m + 31)) tt leap m h k)
 
   pub month-within : daysBefore leap (m + 1) ≤ 365 + leap
   unfolding daysBefore

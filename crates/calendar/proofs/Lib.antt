@@ -1,0 +1,3 @@
+pub mod Whole
+mod Table
+mod Step

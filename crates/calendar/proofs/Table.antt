@@ -1,0 +1,75 @@
+-- The table of the days before each month, by one test over its 24 entries; and the month and the date of a day of the year by that table,
+-- for every number of a day, also past the year's end. Assumes nothing.
+use mathlib.Core.Path.{_≡_, refl, sym, ap, _∙_, subst}
+use mathlib.Core.Bool.{Bool, cond}
+use mathlib.Core.List.{List, [], _∷_}
+use Prim.Native.Nat.{ℕ, _+_, _*_, _-_, _/_, _≤_, _<_}
+use native.Mathlib.Omega.{arith}
+use borrow.Author.Tests.{le-ltb}
+use lib.Dec.{eqb, eqb→eq, ltb, ltb→lt, nltb→le, lit≤}
+use lib.IntN.{pos, natAbs}
+use lib.ListN.{getD}
+use lib.Signed.{ltZ}
+use lib.Ieee.{Float, binary64, ofInt}
+use Rattle.ecma262.specs.Date.{daysBefore, monthOf, dateOf}
+use Rattle.ecma262.proofs.Int.{plus, minus, ints, by-test, by-cond, Term, at, _-ᵗ_, read}
+use Rattle.ecma262.proofs.Table.{all, all-at}
+use Rattle.ecma262.proofs.Months.{each-month, month-from, month-date, month-small}
+use Rattle.calendar.specs.Calendar.{daysInYearF, yearFromTimeF, inLeapYearF}
+
+unfoldable pub entries : List ℕ
+entries =
+    0 ∷ 31 ∷ 59 ∷ 90 ∷ 120 ∷ 151 ∷ 181 ∷ 212 ∷ 243 ∷ 273 ∷ 304 ∷ 334 ∷
+    0 ∷ 31 ∷ 60 ∷ 91 ∷ 121 ∷ 152 ∷ 182 ∷ 213 ∷ 244 ∷ 274 ∷ 305 ∷ 335 ∷ []
+
+-- twelve of a common year, then twelve of a leap year
+pub entry : (leap month : ℕ) → leap ≤ 1 → month < 12 → getD entries (12 * leap + month) 0 ≡ daysBefore leap month
+unfolding entries daysBefore
+entry leap month h k = eqb→eq _ _ (each-month (λ l m. eqb (getD entries (12 * l + m) 0) (daysBefore l m)) tt leap month h k)
+
+-- ---- the month of the day d of a year: d / 32 or the month after that, tested at each day up to the 351st
+pub month-by-32 : (leap d : ℕ) → leap ≤ 1 → d < 352 → monthOf leap (pos d) ≡ cond (ltb d (daysBefore leap (d / 32 + 1))) (d / 32) (d / 32 + 1)
+unfolding monthOf daysBefore
+month-by-32 leap d h k =
+    eqb→eq _ _ (all-at (f leap) 352 (all-at (λ l. all (f l) 352) 2 tt leap (omega arith)) d k)
+  where
+    f : ℕ → ℕ → Bool
+    f l d = eqb (monthOf l (pos d)) (cond (ltb d (daysBefore l (d / 32 + 1))) (d / 32) (d / 32 + 1))
+
+-- a step of the standard's that is passed over
+passed : (d k : ℕ) (x y : ℕ) → k ≤ d → cond (ltZ (pos d) (pos k)) x y ≡ y
+passed d k x y h = ap (λ b. cond b x y) (le-ltb d k h)
+
+-- from the 335th day on it is December, also of a number past the year's end
+pub month-late : (leap d : ℕ) → leap ≤ 1 → 335 ≤ d → monthOf leap (pos d) ≡ 11
+unfolding monthOf
+month-late leap d h k =
+    passed d 31 0 _ (omega arith) ∙ passed d (59 + leap) 1 _ (omega arith) ∙ passed d (90 + leap) 2 _ (omega arith) ∙ passed d (120 + leap) 3 _ (omega arith)
+    ∙ passed d (151 + leap) 4 _ (omega arith) ∙ passed d (181 + leap) 5 _ (omega arith) ∙ passed d (212 + leap) 6 _ (omega arith) ∙ passed d (243 + leap) 7 _ (omega arith)
+    ∙ passed d (273 + leap) 8 _ (omega arith) ∙ passed d (304 + leap) 9 _ (omega arith) ∙ passed d (334 + leap) 10 11 (omega arith)
+
+december : (leap d : ℕ) → leap ≤ 1 → 365 + leap ≤ d → (daysBefore leap 11 ≤ d) × (dateOf leap (pos d) 11 ≡ pos (d + 1 - daysBefore leap 11)) × (11 < 12)
+unfolding dateOf daysBefore
+december leap d h k = (omega arith, omega (ints, read (at (pos d) -ᵗ at (pos 333) -ᵗ at (pos leap))), omega arith)
+
+-- the date is counted from the first of the month, for every d
+pub date-by-month : (leap d : ℕ) → leap ≤ 1
+    → (daysBefore leap (monthOf leap (pos d)) ≤ d) × (dateOf leap (pos d) (monthOf leap (pos d)) ≡ pos (d + 1 - daysBefore leap (monthOf leap (pos d)))) × (monthOf leap (pos d) < 12)
+date-by-month leap d h =
+    by-test (ltb d (365 + leap))
+    (λ c. let k : d < 365 + leap = ltb→lt d (365 + leap) c in (month-from leap d h k, month-date leap d h k, month-small leap d h k))
+    (λ c. let k : 365 + leap ≤ d = nltb→le d (365 + leap) c in
+    subst (λ m. (daysBefore leap m ≤ d) × (dateOf leap (pos d) m ≡ pos (d + 1 - daysBefore leap m)) × (m < 12)) (sym (month-late leap d h (omega arith))) (december leap d h k))
+
+-- in_leap_year is 0 or 1
+pub leap-flag : (t : Float) → inLeapYearF t ≤ 1
+unfolding inLeapYearF
+leap-flag t = by-cond (λ n. n ≤ 1) (eqb (daysInYearF (ofInt binary64 (yearFromTimeF t))) 366) 1 0 (λ _. lit≤ tt) (λ _. lit≤ tt)
+
+-- the same, as the code has it: of the month m and the days b before it
+pub date-number : (leap d m b : ℕ) → leap ≤ 1 → m ≡ monthOf leap (pos d) → b ≡ daysBefore leap m
+    → (b ≤ d) × (m < 12) × (natAbs (dateOf leap (pos d) (monthOf leap (pos d))) ≡ d - b + 1)
+date-number leap d m b h e f =
+    let w = date-by-month leap d h in
+    let g : b ≡ daysBefore leap (monthOf leap (pos d)) = f ∙ ap (daysBefore leap) e in
+    (omega (arith, w .0), omega (arith, w .2), ap natAbs (w .1) ∙ omega (arith, w .0))

@@ -1,0 +1,20 @@
+pub mod Ops
+pub mod Nearest
+pub mod Quotient
+pub mod Whole
+pub mod Order
+pub mod Casts
+pub mod Modulo
+pub mod Literal
+pub mod Constants
+pub mod Bounds
+pub mod Finite
+pub mod Rounding
+pub mod Fractions
+pub mod Special
+pub mod Integer
+mod Saturation
+mod Patterns
+mod Clearing
+mod Digits
+mod Controls
