@@ -117,7 +117,7 @@ module _ {t : Float} {z : ℤ} (w : IsWhole t z) (h : Shown z) where
   abbrev mean : ℤ
   mean = floorDiv (z +ℤ pos 15_778_476_000) 31_556_952_000
 
-  mean-whole : IsWhole (floorF (div binary64 (add binary64 t (num 15_778_476_000)) (num 31_556_952_000))) (floorDiv (z +ℤ pos 15_778_476_000) 31_556_952_000)
+  pub mean-whole : IsWhole (floorF (div binary64 (add binary64 t (num 15_778_476_000)) (num 31_556_952_000))) (floorDiv (z +ℤ pos 15_778_476_000) 31_556_952_000)
   mean-whole =
       let s : natAbs (z +ℤ pos 15778476000) ≤ 8640015864875000 = abs-out (z +ℤ pos 15778476000) (omega (arith, abs-in z h, read (at z +ᵗ at (pos 15778476000)))) in
       floor-div (add-whole binary64 w (num-whole 15778476000 (lit≤ tt)) (omega arith)) (num-whole 31556952000 (lit≤ tt)) (omega arith) (lit< tt) (lit< tt)

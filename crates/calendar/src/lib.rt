@@ -29,7 +29,7 @@ const MS_PER_AVERAGE_YEAR: f64 = 31_556_952_000.0;
 const MS_PER_HALF_YEAR: f64 = 15_778_476_000.0;
 
 // The days of a year before each month: twelve of a common year, then twelve of a leap year.
-const DAYS_BEFORE: [u16; 24] = [
+const DAYS_BEFORE: [u32; 24] = [
     0,
     31,
     59,
@@ -171,7 +171,7 @@ pub fn in_leap_year(t: f64) -> u16
 }
 
 // The days of a year before its month: leap is 1 for a leap year, else 0, and month 0 is January.
-pub fn days_before(leap: u16, month: u16) -> u16
+pub fn days_before(leap: u32, month: u32) -> u32
     requires { ⌜ (leap ≤ 1) × (month < 12) ⌝ }
     ensures { λ r. ⌜ r ≡ daysBefore leap month ⌝ }
 {
@@ -179,7 +179,7 @@ pub fn days_before(leap: u16, month: u16) -> u16
 }
 
 // The month of the day d of a year, both from 0: no month is longer than 32 days, so it is d / 32 or the month after that.
-pub fn month_of_day(leap: u16, d: u16) -> u16
+pub fn month_of_day(leap: u32, d: u32) -> u32
     requires { ⌜ leap ≤ 1 ⌝ }
     ensures { λ r. ⌜ r ≡ monthOf leap (pos d) ⌝ }
 {
@@ -201,7 +201,7 @@ pub fn month_from_time(t: f64) -> u8
     // 1. Let inLeapYear be InLeapYear(t).
     // 2. Let dayWithinYear be DayWithinYear(t).
     // 3. to 15.
-    month_of_day(in_leap_year(t), day_within_year(t)) as u8
+    month_of_day(in_leap_year(t) as u32, day_within_year(t) as u32) as u8
 }
 
 // DateFromTime(t)
@@ -209,13 +209,13 @@ pub fn date_from_time(t: f64) -> u8
     ensures { λ r. ⌜ r ≡ dateFromTimeF t ⌝ }
 {
     // 1. Let inLeapYear be InLeapYear(t).
-    let leap = in_leap_year(t);
+    let leap = in_leap_year(t) as u32;
     // 2. Let dayWithinYear be DayWithinYear(t).
-    let d = day_within_year(t);
+    let d = day_within_year(t) as u32;
     // 3. Let month be MonthFromTime(t).
     let month = month_of_day(leap, d);
     // 4. to 16. The days of the year up to d, less those before the month.
-    (((d - days_before(leap, month)) as u32 + 1) % 256) as u8
+    ((d - days_before(leap, month) + 1) % 256) as u8
 }
 
 // WeekDay(t)

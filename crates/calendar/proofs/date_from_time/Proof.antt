@@ -1,4 +1,4 @@
--- `calendar::date_from_time` meets its contract. Assumes nothing.
+-- `calendar::date_from_time` meets its contract: the day of the year, less those before its month. Assumes nothing.
 use borrow.Author.Needs.{needs}
 use mathlib.Core.Path.{_≡_, refl, sym, ap, ap₂, _∙_, subst}
 use Prim.Native.Nat.{ℕ, _%_, _≤_, _<_}
@@ -12,8 +12,14 @@ use Rattle.calendar.proofs.date_from_time.Tie as tie
 in-leap-year-requires : tie.Need-in-leap-year-requires
 in-leap-year-requires c κs = search needs
 
+cast-leap : tie.Need-cast-leap
+cast-leap c = search needs
+
 day-within-year-requires : tie.Need-day-within-year-requires
 day-within-year-requires c κs = search needs
+
+cast-d : tie.Need-cast-d
+cast-d c = search needs
 
 month-of-day-requires : tie.Need-month-of-day-requires
 month-of-day-requires c κs = subst (λ (n : ℕ). n ≤ 1) (sym (c .before .in-leap-year .ensures)) (leap-flag _)
@@ -29,14 +35,11 @@ sub-result c =
     let l = c .before .before .before .in-leap-year in
     date-number (l .result) (c .before .before .day-within-year .result) _ _ (subst (λ (n : ℕ). n ≤ 1) (sym (l .ensures)) (leap-flag _)) (c .before .month-of-day .ensures) (c .days-before .ensures) .0
 
-cast-result : tie.Need-cast-result
-cast-result c = search needs
-
 add-result : tie.Need-add-result
 add-result c = search needs
 
-cast-result-2 : tie.Need-cast-result-2
-cast-result-2 c = search needs
+cast-result : tie.Need-cast-result
+cast-result c = search needs
 
 returns : tie.Need-returns
 unfolding dateFromTimeF monthFromTimeF
@@ -51,11 +54,12 @@ date-from-time-spec =
     tie.close
     (tie.spec
     in-leap-year-requires
+    cast-leap
     day-within-year-requires
+    cast-d
     month-of-day-requires
     days-before-requires
     sub-result
-    cast-result
     add-result
-    cast-result-2
+    cast-result
     returns)

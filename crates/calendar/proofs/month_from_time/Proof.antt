@@ -13,8 +13,14 @@ use Rattle.calendar.proofs.month_from_time.Tie as tie
 in-leap-year-requires : tie.Need-in-leap-year-requires
 in-leap-year-requires c κs = search needs
 
+cast-month-of-day : tie.Need-cast-month-of-day
+cast-month-of-day c = search needs
+
 day-within-year-requires : tie.Need-day-within-year-requires
 day-within-year-requires c κs = search needs
+
+cast-month-of-day-2 : tie.Need-cast-month-of-day-2
+cast-month-of-day-2 c = search needs
 
 month-of-day-requires : tie.Need-month-of-day-requires
 month-of-day-requires c κs = let l = c .before .in-leap-year in subst (λ (n : ℕ). n ≤ 1) (sym (l .ensures)) (leap-flag _)
@@ -34,7 +40,9 @@ month-from-time-spec =
     tie.close
     (tie.spec
     in-leap-year-requires
+    cast-month-of-day
     day-within-year-requires
+    cast-month-of-day-2
     month-of-day-requires
     cast-result
     returns)
