@@ -1,11 +1,15 @@
 -- The makers of builtins/date/utils.rs on f64: the original's operations in its order, each rounded once, for every value. What they are
 -- in the exact domain, ECMA-262's makers in whole numbers, are laws (proofs/Exact.antt, proofs/Clip.antt). Definitions only. Assumes nothing.
+use mathlib.Core.Path.{_≡_}
 use mathlib.Core.Bool.{Bool, cond, _&&_}
+use mathlib.Core.Option.{Option, some, none}
 use Prim.Native.Nat.{ℕ}
-use lib.Dec.{ltb}
-use lib.Ieee.{Float, nan, binary64, add, sub, mul, div, lt, le, eq, isNan, toUnsigned}
+use lib.Dec.{T, ltb}
+use lib.IntN.{ℤ}
+use lib.Ieee.{Float, nan, binary64, fits, add, sub, mul, div, lt, le, eq, isNan, ofInt, toUnsigned}
 use lib.Ieee.Scale.{finite}
-use Rattle.ecma262.specs.Date.{daysBefore}
+use Rattle.ecma262.specs.Date.{daysBefore, InRange}
+use Rattle.float.specs.Whole.{truncZ}
 use Rattle.float.specs.Rounding.{floorF, truncF, absF, copysignF, remEuclidF, toIntegerOrInfinity}
 use Rattle.calendar.specs.Calendar.{num, dayF, dayFromYearF}
 
@@ -84,3 +88,21 @@ plainZero x = cond (eq (absF x) (num 0)) (num 0) x
 -- "not finite or beyond the range gives NaN; below 1 in magnitude gives +0. It tests first and truncates after."
 unfoldable pub timeClipF : Float → Float
 timeClipF time = cond (finite time) (cond (lt (num 8_640_000_000_000_000) (absF time)) nan (plainZero (truncF time))) nan
+
+-- ---- what the laws speak of
+
+-- "fields finite and truncated": x is a finite f64, and z is its value without its fraction
+pub record IsField (x : Float) (z : ℤ) : Type 0 where
+  pub format : T (fits binary64 x)
+  pub number : T (finite x)
+  pub cut : truncZ x ≡ z
+
+-- The f64 of a clipped time: NaN where TimeClip gives no value. The f64 of 0 is +0.
+abbrev pub timeValue : Option ℤ → Float
+timeValue none = nan
+timeValue (some z) = ofInt binary64 z
+
+-- "a time value is NaN or a whole number in the range", and never -0
+pub data IsTimeValue : Float → Type 0 where
+  no-time : IsTimeValue nan
+  time : (z : ℤ) → InRange z → IsTimeValue (ofInt binary64 z)
