@@ -1,16 +1,15 @@
 -- "A second beyond 64 bits takes the nearest end": the cast to 64 bits saturates, and the list gives there what it gives at the second itself. So for any
 -- time the offset is the one at the whole part of the quotient, whatever its size; NaN and the infinities ask for second 0. Assumes nothing.
-use mathlib.Core.Path.{_≡_, refl, sym, ap, _∙_, subst}
-use mathlib.Core.Bool.{Bool, true, false, not, cond}
+use mathlib.Core.Path.{_≡_, refl, ap, _∙_}
+use mathlib.Core.Bool.{Bool, true, false, cond}
 use mathlib.Core.List.{List}
 use Prim.Native.Nat.{ℕ, zero, suc, _-_, _*_, _/_, _^_, _≤_, _<_, min}
 use native.Mathlib.Omega.{arith}
 use lib.Dec.{T, ltb, ltb→lt, nltb→le}
-use lib.IntN.{ℤ, pos, negsuc, negℤ}
-use lib.Signed.{ltZ}
+use lib.IntN.{pos, negsuc, negℤ}
 use lib.Ieee.{Float, nan, inf, fin, binary64, up, down, add, sub, div, toSigned}
 use lib.Ieee.Scale.{finite}
-use Rattle.ecma262.proofs.Int.{by-test, by-cond}
+use Rattle.ecma262.proofs.Int.{by-cond}
 use Rattle.float.specs.Whole.{signed, truncZ}
 use Rattle.float.specs.Rounding.{remEuclidF}
 use Rattle.float.proofs.Special.{sub-nan-right, div-nan-left, rem-euclid-inf}

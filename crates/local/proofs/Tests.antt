@@ -1,6 +1,6 @@
 -- What `utc_t`'s test decides: NaN of a time that is not finite. Assumes nothing.
 use mathlib.Core.Path.{_≡_, ap}
-use mathlib.Core.Bool.{Bool, true, false, cond}
+use mathlib.Core.Bool.{true, false, cond}
 use mathlib.Core.List.{List}
 use lib.Ieee.{Float, nan, binary64, sub}
 use lib.Ieee.Scale.{finite}

@@ -1,19 +1,19 @@
 -- Local time of whole times: for |t| up to 8,999,999,999,999,999, which covers the exact domain, `local_time` and `utc_t` are the whole numbers t plus and
 -- t less 1,000 times the offset that the list gives at the second of t read as an instant. No sum, product or quotient is rounded. Assumes nothing.
-use mathlib.Core.Path.{_≡_, sym, ap, _∙_, subst}
+use mathlib.Core.Path.{_≡_, sym, ap, subst}
 use mathlib.Core.List.{List}
 use Prim.Native.Nat.{ℕ, _+_, _^_, _≤_, _<_}
 use native.Mathlib.Omega.{arith}
 use lib.Dec.{lit<, lit≤}
-use lib.IntN.{ℤ, pos, negsuc, natAbs, _+ℤ_, _-ℤ_, _*ℤ_}
+use lib.IntN.{ℤ, pos, negsuc, natAbs, _-ℤ_, _*ℤ_}
 use lib.Signed.{mag}
-use lib.Ieee.{Float, nan, binary64, add, ofInt}
+use lib.Ieee.{Float, nan, binary64, ofInt}
 use lib.Ieee.Bits.{is-true}
 use lib.Ieee.Scale.{finite}
 use Rattle.ecma262.specs.Whole.{floorDiv, floorMod}
 use Rattle.ecma262.specs.Date.{InRange}
 use Rattle.ecma262.specs.Domain.{Shown}
-use Rattle.ecma262.proofs.Int.{plus, minus, ints, abs-in, abs-out, Term, at, _+ᵗ_, _-ᵗ_, _ᵗ*_, _/ᵗ_, read}
+use Rattle.ecma262.proofs.Int.{plus, minus, ints, abs-in, abs-out, at, _+ᵗ_, _-ᵗ_, _ᵗ*_, _/ᵗ_, read}
 use Rattle.float.specs.Whole.{IsWhole}
 use Rattle.float.proofs.Whole.{ofInt-whole, add-whole, sub-whole, mul-whole}
 use Rattle.float.proofs.Rounding.{whole-finite}

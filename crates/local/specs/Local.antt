@@ -2,7 +2,6 @@
 -- on whole times are laws (proofs/Whole.antt). The list is decoded: its records, crates/zone. Definitions only. Assumes nothing.
 use mathlib.Core.Bool.{cond}
 use mathlib.Core.List.{List}
-use Prim.Native.Nat.{ℕ}
 use lib.IntN.{ℤ, pos, _+ℤ_, _-ℤ_, _*ℤ_}
 use lib.Ieee.{Float, nan, binary64, add, sub, mul, div, ofInt, toSigned}
 use lib.Ieee.Scale.{finite}

@@ -2,25 +2,23 @@
 -- range and never -0. Assumes nothing.
 use mathlib.Core.Path.{_≡_, refl, sym, ap, _∙_, subst}
 use mathlib.Core.Bool.{Bool, true, false, cond}
-use mathlib.Core.Option.{Option, some, none}
-use Prim.Native.Nat.{ℕ, zero, suc, _^_, _≤_, _<_}
+use Prim.Native.Nat.{zero, suc, _^_, _≤_, _<_}
 use native.Mathlib.Nat.{div-one, zero-lt-suc}
 use native.Mathlib.Omega.{arith}
 use lib.Dec.{T, leb, leb→le, nleb→lt, lit<, lit≤}
 use lib.IntN.{ℤ, pos, negsuc, natAbs}
-use lib.Signed.{_≤ℤ_, _<ℤ_}
 use lib.Ieee.{Float, nan, binary64, fits, lt, eq, ofInt}
 use lib.Ieee.Bits.{is-true}
-use lib.Ieee.Fits.{ofInt-fits}
+use lib.Ieee.Fits.{nan-fits, ofInt-fits}
 use lib.Ieee.Scale.{finite}
 use Rattle.ecma262.specs.Date.{timeRange, InRange, TimeClip}
-use Rattle.ecma262.proofs.Int.{plus, minus, ints, by-test}
+use Rattle.ecma262.proofs.Int.{ints, by-test}
 use Rattle.ecma262.proofs.Machine.{true-T}
 use Rattle.ecma262.proofs.Range.{clip-inside, clip-outside}
-use Rattle.float.specs.Whole.{IsWhole, truncZ}
+use Rattle.float.specs.Whole.{IsWhole, truncZ, plain}
 use Rattle.float.specs.Rounding.{truncF, absF}
-use Rattle.float.proofs.Whole.{ofInt-whole, round-is-whole, unique}
-use Rattle.float.proofs.Rounding.{trunc-value, trunc-whole, trunc-fits, abs-whole, whole-finite}
+use Rattle.float.proofs.Whole.{ofInt-whole, round-is-whole, unique, plain-nonzero}
+use Rattle.float.proofs.Rounding.{wholeNumber, trunc-value, trunc-whole, trunc-fits, abs-whole, whole-finite}
 use Rattle.float.proofs.Order.{lt-holds, lt-fails, eq-yes, eq-no, trunc-bounded}
 use Rattle.calendar.specs.Calendar.{num}
 use Rattle.calendar.proofs.Whole.{num-whole}
@@ -62,12 +60,13 @@ clip-time-value x h = go (finite x) refl (lt (num 8640000000000000) (absF x)) re
     go true e true k = subst IsTimeValue (sym (clip-beyond x e k)) no-time
     go true e false k = let F = true-T (finite x) e in subst IsTimeValue (sym (clip-cut x h F k)) (time (truncZ x) (cut-in-range x h F k))
 
--- THE LAW for every whole time
+-- ---- a whole time is its own whole part
 trunc-small : {x : Float} {z : ℤ} → IsWhole x z → natAbs z ≤ 2 ^ 53 → IsWhole (truncF x) z
 trunc-small {x} {z} w b =
-    subst (λ (v : Float). IsWhole v z) (sym (trunc-value x (w .sign) (w .size) 1 (zero-lt-suc 0) (w .value) ∙ ap (λ (n : ℕ). lib.Ieee.round binary64 (w .sign) n 1) (div-one (w .size))))
+    subst (λ (v : Float). IsWhole v z) (sym (trunc-value x (w .sign) (w .size) 1 (zero-lt-suc 0) (w .value) ∙ ap (wholeNumber (w .sign)) (div-one (w .size))))
     (round-is-whole binary64 (w .sign) (w .size) z (w .is) b)
 
+-- THE LAW for every whole time, in the range and beyond it
 module _ {t : Float} {z : ℤ} (w : IsWhole t z) where
   pub clip-inside-whole : InRange z → timeClipF t ≡ ofInt binary64 z
   clip-inside-whole r =
@@ -82,3 +81,15 @@ module _ {t : Float} {z : ℤ} (w : IsWhole t z) where
   clip-exact = by-test (leb (natAbs z) timeRange)
       (λ y. let r : InRange z = leb→le (natAbs z) timeRange y in clip-inside-whole r ∙ ap timeValue (sym (clip-inside z r)))
       (λ n. let r : timeRange < natAbs z = nleb→lt (natAbs z) timeRange n in clip-outside-whole r ∙ ap timeValue (sym (clip-outside z r)))
+
+-- ---- a time value is a value of the format, and not -0
+pub time-value-fits : {x : Float} → IsTimeValue x → T (fits binary64 x)
+time-value-fits no-time = nan-fits binary64
+time-value-fits (time z r) = ofInt-fits binary64 z
+
+pub time-value-plain : {x : Float} → IsTimeValue x → T (plain x)
+unfolding ofInt
+time-value-plain no-time = tt
+time-value-plain (time (pos zero) r) = tt
+time-value-plain (time (pos (suc n)) r) = plain-nonzero (ofInt-whole binary64 (pos (suc n)) (omega arith)) (λ e. absurd (omega (ints, e)))
+time-value-plain (time (negsuc n) r) = plain-nonzero (ofInt-whole binary64 (negsuc n) (omega arith)) (λ e. absurd (omega (ints, e)))

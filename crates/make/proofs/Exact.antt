@@ -1,24 +1,23 @@
 -- In the exact domain of document 01 every sum and product of the makers is exact, and they are ECMA-262's makers in whole numbers: of fields that are any
 -- finite f64, cut to whole numbers that meet ExactDay and ExactTime, `make_time` is MakeTime, `make_day` is MakeDay and `make_date` is MakeDate of the two.
 -- `make_full_year` is MakeFullYear of every finite year. Assumes nothing.
-use mathlib.Core.Path.{_≡_, refl, sym, ap, ap₂, _∙_, subst}
-use mathlib.Core.Bool.{Bool, true, false, not, cond}
+use mathlib.Core.Path.{_≡_, sym, _∙_, subst}
+use mathlib.Core.Bool.{true}
 use Prim.Native.Nat.{ℕ, _+_, _*_, _^_, _≤_, _<_}
 use native.Mathlib.Omega.{arith}
-use lib.Dec.{T, ltb, ltb→lt, nltb→le, lit<, lit≤}
+use lib.Dec.{ltb, ltb→lt, nltb→le, lit<, lit≤}
 use lib.IntN.{ℤ, pos, negsuc, natAbs, _+ℤ_, _-ℤ_, _*ℤ_}
-use lib.Signed.{_≤ℤ_, _<ℤ_}
 use lib.Ieee.{Float, binary64, add, sub, mul, isNan}
 use lib.Ieee.Bits.{is-true, is-false}
 use lib.Ieee.Scale.{finite}
 use Rattle.ecma262.specs.Whole.{floorDiv, floorMod}
-use Rattle.ecma262.specs.Date.{Day, DayFromYear, daysBefore, leapOf, firstOfMonth, MakeTime, MakeDay, MakeDate, MakeFullYear}
+use Rattle.ecma262.specs.Date.{DayFromYear, daysBefore, firstOfMonth, MakeTime, MakeDay, MakeDate, MakeFullYear}
 use Rattle.ecma262.specs.Domain.{ExactDay, ExactTime}
-use Rattle.ecma262.proofs.Int.{plus, minus, ints, abs-in, abs-out, mod-small, by-cond, Term, value, at, _+ᵗ_, _-ᵗ_, _*ᵗ_, _ᵗ*_, _/ᵗ_, read}
+use Rattle.ecma262.proofs.Int.{plus, minus, ints, abs-in, abs-out, mod-small, by-cond, Term, value, at, _+ᵗ_, _-ᵗ_, _ᵗ*_, read}
 use Rattle.ecma262.proofs.Months.{month-nonempty, month-within}
 use Rattle.ecma262.proofs.Fields.{rust-make-day, day-of-days}
 use Rattle.ecma262.proofs.Range.{day-range, first-range, make-day-range, make-time-range, make-date-range}
-use Rattle.float.specs.Whole.{IsWhole, truncZ}
+use Rattle.float.specs.Whole.{IsWhole}
 use Rattle.float.specs.Rounding.{toIntegerOrInfinity}
 use Rattle.float.proofs.Whole.{add-whole, sub-whole, mul-whole}
 use Rattle.float.proofs.Rounding.{whole-finite}
@@ -28,7 +27,7 @@ use Rattle.float.proofs.Integer.{integer-whole}
 use Rattle.float.proofs.Special.{finite-number}
 use Rattle.calendar.specs.Calendar.{num, dayF, dayFromYearF}
 use Rattle.calendar.proofs.Whole.{num-whole, day-whole, day-from-year-whole}
-use Rattle.make.specs.Make.{wholePart, joinTime, makeTimeF, yearOfMonth, monthOfYear, rest, monthStartF, dayOfMonthF, makeDayF, makeDateF, fullYear, makeFullYearF, IsField}
+use Rattle.make.specs.Make.{wholePart, joinTime, makeTimeF, yearOfMonth, rest, monthStartF, makeDayF, makeDateF, fullYear, makeFullYearF, IsField}
 use Rattle.make.proofs.Tests.{make-time-finite, make-day-finite, day-of-month-finite, make-date-finite, full-year-number, full-year-small, full-year-below, full-year-above}
 use Rattle.make.proofs.Parts.{field-part, month-whole}
 
@@ -154,8 +153,13 @@ pub make-fields-exact : {year month date hour min sec ms : Float} {y m dt h mi s
 make-fields-exact a b c d e f g day time =
     make-date-exact (make-day-exact a b c day) (make-time-exact d e f g time) (make-day-range _ _ _ day) (make-time-range _ _ _ _ time)
 
-pub fields-small : (y m dt h mi s milli : ℤ) → ExactDay y m dt → ExactTime h mi s milli → natAbs (MakeDate (MakeDay y m dt) (MakeTime h mi s milli)) < 2 ^ 53
-fields-small y m dt h mi s milli day time = make-date-range (MakeDay y m dt) (MakeTime h mi s milli) (make-day-range y m dt day) (make-time-range h mi s milli time) .1
+-- and it leaves room for a local shift of a day
+pub make-date-small : (d t : ℤ) → natAbs d ≤ 103_987_430 → natAbs t ≤ 6_200_000_000_000 → natAbs (MakeDate d t) ≤ 8_999_999_999_999_999
+make-date-small d t h k = abs-out (MakeDate d t) (omega (arith, abs-in d h, abs-in t k, read (at d ᵗ* 86400000 +ᵗ at t)))
+
+pub make-fields-small : (y m dt h mi s milli : ℤ) → ExactDay y m dt → ExactTime h mi s milli
+    → natAbs (MakeDate (MakeDay y m dt) (MakeTime h mi s milli)) ≤ 8_999_999_999_999_999
+make-fields-small y m dt h mi s milli day time = make-date-small (MakeDay y m dt) (MakeTime h mi s milli) (make-day-range y m dt day) (make-time-range h mi s milli time)
 
 -- ---- MakeFullYear, of a finite year of any size
 full-year-whole : {i : Float} (z : ℤ) → IsWhole i z → IsWhole (fullYear i) (MakeFullYear z)

@@ -1,7 +1,7 @@
 -- The whole part of a field, and the year and the month that a month gives. Of a finite field, whatever its size, the whole part is the whole number
 -- `truncZ`, nothing rounded; so the month of the year is the remainder by 12, below 12. Assumes nothing.
 use mathlib.Core.Path.{_≡_, refl, sym, subst}
-use Prim.Native.Nat.{ℕ, _<_, _≤_, _^_}
+use Prim.Native.Nat.{_<_, _≤_, _^_}
 use native.Mathlib.Omega.{arith}
 use lib.Dec.{T, lit<, lit≤}
 use lib.IntN.{ℤ, natAbs}

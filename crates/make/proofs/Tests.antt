@@ -2,7 +2,7 @@
 use mathlib.Core.Path.{_≡_, refl, sym, ap, _∙_}
 use mathlib.Core.Bool.{Bool, true, false, not, cond, _&&_}
 use Prim.Native.Nat.{ℕ}
-use lib.Ieee.{Float, nan, binary64, add, sub, mul, div, lt, le, eq, isNan, ofBits}
+use lib.Ieee.{Float, nan, binary64, add, sub, mul, div, lt, le, isNan, ofBits}
 use lib.Ieee.Scale.{finite}
 use borrow.Author.Tests.{not-true, not-false}
 use Rattle.float.specs.Rounding.{truncF, absF, toIntegerOrInfinity}

@@ -1,7 +1,7 @@
 -- The makers of builtins/date/utils.rs on f64: the original's operations in its order, each rounded once, for every value. What they are
 -- in the exact domain, ECMA-262's makers in whole numbers, are laws (proofs/Exact.antt, proofs/Clip.antt). Definitions only. Assumes nothing.
 use mathlib.Core.Path.{_≡_}
-use mathlib.Core.Bool.{Bool, cond, _&&_}
+use mathlib.Core.Bool.{cond, _&&_}
 use mathlib.Core.Option.{Option, some, none}
 use Prim.Native.Nat.{ℕ}
 use lib.Dec.{T, ltb}

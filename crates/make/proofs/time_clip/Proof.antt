@@ -1,8 +1,8 @@
 -- `make::time_clip` meets its contract. Assumes nothing.
 use borrow.Author.Needs.{needs}
-use mathlib.Core.Path.{_≡_, sym, ap, _∙_}
-use mathlib.Core.Bool.{Bool, cond}
-use lib.Ieee.{Float, lt, eq, ofBits, ofInt}
+use mathlib.Core.Path.{sym, ap, _∙_}
+use mathlib.Core.Bool.{cond}
+use lib.Ieee.{lt, eq, ofBits, ofInt}
 use Rattle.float.specs.Rounding.{truncF, absF}
 use Rattle.calendar.specs.Calendar.{num}
 use Rattle.make.proofs.Tests.{made-nan, off, on, clip-not-finite, clip-beyond, clip-within}
