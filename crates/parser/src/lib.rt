@@ -116,10 +116,7 @@ fn few_digits(text: &[u8], at: usize, n: usize) -> Digits
         next += 1;
         i += 1;
     }
-    Digits::Value {
-        value: value,
-        next: next,
-    }
+    Digits::Value { value, next }
 }
 
 // `n` digits as a block.
@@ -145,10 +142,7 @@ fn next_n_ascii_digits(text: &[u8], at: usize, n: usize) -> Block
         next += 1;
         i += 1;
     }
-    Block::Value {
-        block: block,
-        next: next,
-    }
+    Block::Value { block, next }
 }
 
 // The number of `n` digits: few are joined as they are read, four as a block of 32 bits, more as one of 64.
@@ -165,12 +159,12 @@ fn parse_n_ascii_digits(text: &[u8], at: usize, n: usize) -> Digits
             if n == 4 {
                 return Digits::Value {
                     value: fast_atoi::process_4(block as u32, n),
-                    next: next,
+                    next,
                 };
             }
             Digits::Value {
                 value: fast_atoi::process_8(block, n) as u32,
-                next: next,
+                next,
             }
         }
     }
@@ -189,10 +183,7 @@ fn read_field(text: &[u8], at: usize, low: u32, high: u32) -> Digits
             if high < value {
                 return Digits::Refused(Fault::Range);
             }
-            Digits::Value {
-                value: value,
-                next: next,
-            }
+            Digits::Value { value, next }
         }
     }
 }
@@ -218,7 +209,7 @@ fn signed_year(text: &[u8], at: usize, negative: bool) -> YearRead
             }
             YearRead::Value(
                 Year::Six {
-                    negative: negative,
+                    negative,
                     year: value,
                 },
                 next,
@@ -277,13 +268,7 @@ fn parse_day(text: &[u8], at: usize, month: u32) -> DateRead
     }
     match read_field(text, at + 1, 1, 31) {
         Digits::Refused(f) => DateRead::Refused(f),
-        Digits::Value { value, next } => DateRead::Value(
-            Date::ToDay {
-                month: month,
-                day: value,
-            },
-            next,
-        ),
+        Digits::Value { value, next } => DateRead::Value(Date::ToDay { month, day: value }, next),
     }
 }
 
@@ -317,9 +302,9 @@ fn parse_decimals(text: &[u8], at: usize, hour: u32, minute: u32, second: u32) -
     if text.len() <= at {
         return TimeRead::Value(
             Time::ToSecond {
-                hour: hour,
-                minute: minute,
-                second: second,
+                hour,
+                minute,
+                second,
             },
             at,
         );
@@ -327,9 +312,9 @@ fn parse_decimals(text: &[u8], at: usize, hour: u32, minute: u32, second: u32) -
     if text[at] != b'.' {
         return TimeRead::Value(
             Time::ToSecond {
-                hour: hour,
-                minute: minute,
-                second: second,
+                hour,
+                minute,
+                second,
             },
             at,
         );
@@ -338,9 +323,9 @@ fn parse_decimals(text: &[u8], at: usize, hour: u32, minute: u32, second: u32) -
         Digits::Refused(f) => TimeRead::Refused(f),
         Digits::Value { value, next } => TimeRead::Value(
             Time::ToDecimals {
-                hour: hour,
-                minute: minute,
-                second: second,
+                hour,
+                minute,
+                second,
                 ms: value,
             },
             next,
@@ -353,22 +338,10 @@ fn parse_second(text: &[u8], at: usize, hour: u32, minute: u32) -> TimeRead
     ensures { λ r. ⌜ Reads (readSecond hour minute) (now (text .entry)) at (outTime (now (text .entry)) r) ⌝ }
 {
     if text.len() <= at {
-        return TimeRead::Value(
-            Time::ToMinute {
-                hour: hour,
-                minute: minute,
-            },
-            at,
-        );
+        return TimeRead::Value(Time::ToMinute { hour, minute }, at);
     }
     if text[at] != b':' {
-        return TimeRead::Value(
-            Time::ToMinute {
-                hour: hour,
-                minute: minute,
-            },
-            at,
-        );
+        return TimeRead::Value(Time::ToMinute { hour, minute }, at);
     }
     match read_field(text, at + 1, 0, 59) {
         Digits::Refused(f) => TimeRead::Refused(f),
@@ -412,29 +385,17 @@ fn parse_offset_minute(text: &[u8], at: usize, negative: bool, hour: u32) -> Zon
     ensures { λ r. ⌜ Reads (readOffsetMinute negative hour) (now (text .entry)) at (outZone (now (text .entry)) r) ⌝ }
 {
     if text.len() <= at {
-        return ZoneRead::Value(
-            Zone::ToHour {
-                negative: negative,
-                hour: hour,
-            },
-            at,
-        );
+        return ZoneRead::Value(Zone::ToHour { negative, hour }, at);
     }
     if text[at] != b':' {
-        return ZoneRead::Value(
-            Zone::ToHour {
-                negative: negative,
-                hour: hour,
-            },
-            at,
-        );
+        return ZoneRead::Value(Zone::ToHour { negative, hour }, at);
     }
     match read_field(text, at + 1, 0, 59) {
         Digits::Refused(f) => ZoneRead::Refused(f),
         Digits::Value { value, next } => ZoneRead::Value(
             Zone::ToMinute {
-                negative: negative,
-                hour: hour,
+                negative,
+                hour,
                 minute: value,
             },
             next,
@@ -478,7 +439,7 @@ fn after_date(d: Date) -> Fault
     match d {
         Date::ToYear => Fault::Bad,
         Date::ToMonth(_) => Fault::Bad,
-        Date::ToDay { month: _, day: _ } => Fault::Trailing,
+        Date::ToDay { .. } => Fault::Trailing,
     }
 }
 
@@ -489,15 +450,8 @@ fn after_zone(z: Zone) -> Fault
     match z {
         Zone::Absent => Fault::Bad,
         Zone::Zulu => Fault::Trailing,
-        Zone::ToHour {
-            negative: _,
-            hour: _,
-        } => Fault::Bad,
-        Zone::ToMinute {
-            negative: _,
-            hour: _,
-            minute: _,
-        } => Fault::Trailing,
+        Zone::ToHour { .. } => Fault::Bad,
+        Zone::ToMinute { .. } => Fault::Trailing,
     }
 }
 

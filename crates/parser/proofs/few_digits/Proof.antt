@@ -1,3 +1,4 @@
+-- `few_digits` reads as the definition does. The loop keeps a run: i digits are read, their number and the next place. Assumes nothing.
 use Prim.Native.Nat.{_-_}
 use borrow.Author.Needs.{needs}
 use native.Mathlib.Omega.{arith}

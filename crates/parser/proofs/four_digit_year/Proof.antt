@@ -1,3 +1,4 @@
+-- `four_digit_year` reads as the definition does. Assumes nothing.
 use borrow.Author.Needs.{needs}
 use Rattle.parser.proofs.Steps.{steps}
 use Rattle.parser.proofs.four_digit_year.Statement.{statement}

@@ -1,3 +1,4 @@
+-- `hour_allowed` tests hour 24 and the smaller fields as the definition does. Assumes nothing.
 use borrow.Author.Tests.{eq-eqb, ne-eqb}
 use Rattle.parser.proofs.hour_allowed.Statement.{statement}
 use Rattle.parser.proofs.hour_allowed.Tie as tie

@@ -1,3 +1,4 @@
+-- `is_sign` tells `+` and `-` from the other bytes. Assumes nothing.
 use borrow.Author.Tests.{eq-eqb, ne-eqb}
 use Rattle.parser.proofs.is_sign.Statement.{statement}
 use Rattle.parser.proofs.is_sign.Tie as tie

@@ -1,3 +1,4 @@
+-- `next_n_ascii_digits` gathers the digits that the definition reads. The loop keeps their block, one byte more at each turn. Assumes nothing.
 use Prim.Native.Nat.{_-_}
 use borrow.Author.Needs.{needs}
 use native.Mathlib.Omega.{arith}

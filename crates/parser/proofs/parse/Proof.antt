@@ -1,3 +1,4 @@
+-- `parse` is the definition's `read`: each stage by its contract, then the end of the text or `T`. Assumes nothing.
 use borrow.Author.Needs.{needs}
 use Rattle.parser.specs.Reading.{read}
 use Rattle.parser.proofs.Steps.{rest-end, rest-other, rest-time}

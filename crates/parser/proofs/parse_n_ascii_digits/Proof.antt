@@ -1,3 +1,4 @@
+-- `parse_n_ascii_digits` reads as the definition does: few digits one by one, others by the law that `fast_atoi` is the number. Assumes nothing.
 use borrow.Author.Needs.{needs}
 use Rattle.parser.proofs.Steps.{blocks, block-fits, block-value, eight-fits}
 use Rattle.parser.proofs.parse_n_ascii_digits.Statement.{statement}

@@ -1,3 +1,4 @@
+-- `parse_timed` is the definition's `timePart`: each stage by its contract, then the end of the text. Assumes nothing.
 use borrow.Author.Needs.{needs}
 use Rattle.parser.specs.Reading.{timePart}
 use Rattle.parser.proofs.Steps.{ending-more, ending-allowed, ending-refused}

@@ -1,3 +1,4 @@
+-- `parse_timezone` chooses by the next byte as the definition does. Assumes nothing.
 use borrow.Author.Needs.{needs}
 use Rattle.parser.proofs.Steps.{steps, give-now, choose-no, choose-sign, choose-unsigned}
 use Rattle.parser.specs.Reading.{readOffset, readZone}

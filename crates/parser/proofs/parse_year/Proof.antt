@@ -1,3 +1,4 @@
+-- `parse_year` chooses by the first byte as the definition does. Assumes nothing.
 use borrow.Author.Needs.{needs}
 use Rattle.parser.proofs.Steps.{signs, choose-sign, choose-unsigned}
 use Rattle.parser.specs.Reading.{after, digitsAfter, signedYear, fourDigits, readYear}

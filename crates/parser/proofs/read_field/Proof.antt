@@ -1,3 +1,4 @@
+-- `read_field` reads two digits and tests their bounds after both, as the definition does. Assumes nothing.
 use borrow.Author.Needs.{needs}
 use Rattle.parser.proofs.Steps.{steps}
 use Rattle.parser.proofs.read_field.Statement.{statement}

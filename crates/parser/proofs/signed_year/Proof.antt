@@ -1,3 +1,4 @@
+-- `signed_year` reads six digits after a sign, but for -000000, as the definition does. Assumes nothing.
 use borrow.Author.Needs.{needs}
 use Rattle.parser.proofs.Steps.{steps, signs}
 use Rattle.parser.proofs.signed_year.Statement.{statement}

@@ -1,3 +1,4 @@
+-- `time_allowed` is that test at a time's fields, an absent one 0. Assumes nothing.
 use borrow.Author.Needs.{needs}
 use Rattle.parser.proofs.time_allowed.Statement.{statement}
 use Rattle.parser.proofs.time_allowed.Tie as tie
