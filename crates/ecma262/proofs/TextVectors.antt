@@ -1,8 +1,7 @@
 -- The texts at written times, computed by the checker: the papers' marked rows, the years at which the number of digits changes, both ends
 -- of the range, local times beyond it, and the suffix. The expected texts are Node's and Python's. Assumes nothing.
 use mathlib.Core.Path.{_≡_, refl}
-use Prim.Native.Nat.{ℕ}
-use lib.IntN.{ℤ, pos, negsuc}
+use lib.IntN.{pos, negsuc}
 use Rattle.ecma262.specs.Date.{DaysInYear, DayFromYear, YearFromTime, monthOf, dateOf, daysBefore}
 use Rattle.ecma262.specs.Texts.{ascii, isoYear, isoText, dayName, monthName, paddedYear, yearSign, offsetSign, timeZoneString, utcText, localText}
 

@@ -5,14 +5,14 @@ use mathlib.Core.List.{List, [], _∷_, _++_, append-assoc}
 use Prim.Native.Nat.{ℕ, zero, suc, _+_, _^_, _≤_, _<_}
 use native.Mathlib.Omega.{arith}
 use lib.Dec.{ltb, leb, ltb→lt, nltb→le, leb→le}
-use lib.ListN.{length, take, drop, length-append}
+use lib.ListN.{length, take, drop}
 use lib.IntN.{ℤ, pos, negsuc, natAbs, negℤ}
 use lib.Signed.{_≤ℤ_}
 use Rattle.ecma262.specs.Digits.{digits}
 use Rattle.ecma262.specs.Date.{YearFromTime, leapOf, daysBefore, DaysInMonth, Fields, Valid, timeOf, fieldsOf}
 use Rattle.ecma262.specs.Texts.{isoYear, isoDate, isoTime, isoOf, isoText}
 use Rattle.ecma262.specs.Written.{WrittenYear, four, above, below, WrittenAs, Written}
-use Rattle.ecma262.proofs.Int.{ints, abs-out, by-test, plus, minus}
+use Rattle.ecma262.proofs.Int.{ints, abs-out, by-test}
 use Rattle.ecma262.proofs.Digits.{digits-unique}
 use Rattle.ecma262.proofs.Fields.{fields-valid, fields-of-time, time-of-fields}
 use Rattle.ecma262.proofs.Table.{all, all-at}
@@ -165,3 +165,9 @@ iso-injective t u h k e =
     sym (time-of-fields t)
     ∙ ap timeOf (written-unique (iso-written t h) (subst (WrittenAs (fieldsOf u)) (sym e) (iso-written u k)))
     ∙ time-of-fields u
+
+-- "Exactly one text of the written form": the ISO text of a time is of the written form with that time's fields, and no other text of the
+-- written form has fields of that time
+pub one-written : (t : ℤ) → natAbs t ≤ 8_640_000_086_399_000
+    → Written (isoText t) × ((w : List ℕ) (r : Written w) → timeOf (r .fields) ≡ t → w ≡ isoText t)
+one-written t h = (record { fields = fieldsOf t; written = iso-written t h }, λ w r e. written-time (r .written) ∙ ap isoText e)

@@ -2,7 +2,7 @@
 -- digits of a day that month has in that year, `T`, hour 00 to 23, `:`, minute 00 to 59, `:`, second 00 to 59, `.`, three digits, `Z`",
 -- "with nothing else in it". Definitions only. Assumes nothing.
 use mathlib.Core.Path.{_≡_}
-use mathlib.Core.List.{List, [], _∷_, _++_}
+use mathlib.Core.List.{List, _++_}
 use Prim.Native.Nat.{ℕ, _+_, _≤_}
 use lib.IntN.{ℤ, pos, negℤ}
 use Rattle.ecma262.specs.Digits.{digits}

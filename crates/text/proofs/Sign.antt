@@ -1,20 +1,20 @@
 -- Signed numbers by their sign and magnitude, as the code tells them apart. Assumes nothing.
-use mathlib.Core.Path.{_≡_, refl, sym, ap, _∙_, subst}
-use Prim.Native.Nat.{ℕ, suc, _+_, _^_, _≤_, _<_}
-use native.Mathlib.Omega.{arith}
-use lib.Dec.{T}
-use lib.IntN.{ℤ, pos, negsuc, natAbs, _-ℤ_}
-use lib.Signed.{mag, nonNeg, ltZ, _≤ℤ_, _<ℤ_}
+use mathlib.Core.Path.{_≡_, sym, ap, subst}
 use mathlib.Core.Bool.{true, false}
 use mathlib.Core.List.{List}
+use Prim.Native.Nat.{ℕ, _+_, _≤_, _<_}
+use native.Mathlib.Omega.{arith}
+use lib.Dec.{T}
 use lib.ListN.{length}
-use Rattle.ecma262.specs.Texts.{timeZoneString}
-use Rattle.text.specs.Output.{Puts}
+use lib.IntN.{ℤ, pos, negsuc, natAbs, _-ℤ_}
+use lib.Signed.{nonNeg, ltZ, _≤ℤ_, _<ℤ_}
 use mir.Syntax.{w32}
-use mir.Val.{Fits, SFits, toZ, ofZ, hbits, bits}
+use mir.Val.{Fits, SFits, toZ, ofZ}
 use mir.Facts.{toZ-ofZ}
+use Rattle.ecma262.specs.Texts.{timeZoneString}
 use Rattle.ecma262.proofs.Int.{ints, diff-fact, abs-in}
 use Rattle.ecma262.proofs.Machine.{fits32, lt-true, lt-false}
+use Rattle.text.specs.Output.{Puts}
 
 -- a signed local holds bits: what a test says of them, it says of the number
 pub below-zero : {x : ℤ} → SFits w32 x → ltZ (toZ w32 (ofZ w32 x)) (pos 0) ≡ true → x <ℤ pos 0

@@ -1,10 +1,9 @@
 -- The fields of every time of the range, and of every local time about it, are printable. Assumes nothing.
-use mathlib.Core.Path.{_≡_, sym, ap, subst}
-use mathlib.Core.List.{List}
-use Prim.Native.Nat.{ℕ, _+_, _≤_, _<_}
+use mathlib.Core.Path.{_≡_, sym, subst}
+use Prim.Native.Nat.{_≤_, _<_}
 use native.Mathlib.Omega.{arith}
 use lib.IntN.{ℤ, natAbs}
-use Rattle.ecma262.specs.Date.{WeekDay, Fields, Valid, DaysInMonth, fieldsOf}
+use Rattle.ecma262.specs.Date.{WeekDay, Valid, fieldsOf}
 use Rattle.ecma262.proofs.Fields.{fields-valid}
 use Rattle.ecma262.proofs.Texts.{weekday-small}
 use Rattle.ecma262.proofs.Written.{year-small, month-days}

@@ -1,7 +1,7 @@
 -- The fields that the printing functions take, as the Date chapter's fields. Definitions only. Assumes nothing.
-use Prim.Native.Nat.{ℕ, _<_, _≤_}
-use lib.IntN.{ℤ, natAbs}
 use mathlib.Core.List.{List, _++_}
+use Prim.Native.Nat.{ℕ, _<_, _≤_}
+use lib.IntN.{natAbs}
 use Rattle.ecma262.specs.Date.{Fields}
 use Rattle.ecma262.specs.Digits.{digits}
 use Rattle.ecma262.specs.Texts.{ascii, dayName, monthName}
