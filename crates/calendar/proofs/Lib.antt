@@ -1,3 +1,3 @@
 pub mod Whole
-mod Table
+pub mod Table
 mod Step

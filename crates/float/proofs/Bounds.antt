@@ -1,11 +1,11 @@
 -- How large a sum, a product, a quotient and a remainder are, in numbers that omega reads. Assumes nothing.
-use mathlib.Core.Path.{_≡_, refl, sym, ap, _∙_, subst}
-use Prim.Native.Nat.{ℕ, zero, suc, _+_, _-_, _*_, _/_, _%_, _≤_, _<_, suc-le-suc}
-use native.Mathlib.Nat.{le-refl, le-trans, le-of-eq, div-le-self, mod-lt, zero-mul, mul-zero}
+use mathlib.Core.Path.{_≡_, refl, subst}
+use Prim.Native.Nat.{ℕ, zero, suc, _+_, _-_, _*_, _≤_, _<_, suc-le-suc}
+use native.Mathlib.Nat.{le-refl, le-trans, div-le-self, mod-lt}
 use native.Mathlib.Omega.{arith}
-use mathlib.Core.Bool.{Bool, true, false, not, cond}
+use mathlib.Core.Bool.{Bool, true, false, cond}
 use lib.IntN.{ℤ, pos, negsuc, negℤ, natAbs, subℕ, _+ℤ_, _-ℤ_, _*ℤ_}
-use lib.Dec.{T, ltb, ltb→lt, nltb→le}
+use lib.Dec.{T, ltb, ltb→lt}
 use Rattle.ecma262.specs.Whole.{floorDiv, floorMod}
 
 sub-size : (a b : ℕ) → natAbs (subℕ a b) ≤ a + b

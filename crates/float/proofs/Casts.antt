@@ -1,11 +1,11 @@
 -- A whole float `as` an integer: Rust's cast gives the number, and Rattle's check of it asks that the float is not -0, which `x + 0.0` never is.
 -- Assumes nothing.
-use mathlib.Core.Path.{_≡_, refl, sym, ap, ap₂, _∙_, subst}
+use mathlib.Core.Path.{_≡_, sym, ap, ap₂, _∙_, subst}
 use Prim.Native.Nat.{ℕ, zero, suc, _-_, _*_, _/_, _%_, _^_, _≤_, _<_, min}
 use native.Mathlib.Nat.{mul-one, zero-mul, le-of-lt}
 use native.Mathlib.Omega.{arith}
 use mathlib.Core.Bool.{Bool, true, false, not, _&&_, cond, true≢false, false≢true}
-use lib.IntN.{ℤ, pos, negsuc, negℤ, natAbs, _+ℤ_, +ℤ-idr, pos-ne-negsuc}
+use lib.IntN.{ℤ, pos, negℤ, natAbs, _+ℤ_, +ℤ-idr, pos-ne-negsuc}
 use lib.Signed.{mag}
 use lib.Dec.{T-not, T, ltb, leb, eqb, lt→ltb, le→leb}
 use lib.Ieee.{Float, nan, inf, fin, Format, binary64, prec, up, down, add, ofBits, toUnsigned, toSigned, whole, inUnsigned, inSigned}

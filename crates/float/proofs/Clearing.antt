@@ -5,11 +5,11 @@ use native.Mathlib.Nat.{lt-of-le-of-lt, lt-of-lt-of-le, mod-lt, mul-one, mul-com
 use lib.Arith.{le→nltb}
 use mathlib.Core.Logic.{_⊎_, inl, inr}
 use native.Mathlib.Omega.{arith}
-use mathlib.Core.Bool.{Bool, true, false, cond, not, true≢false}
+use mathlib.Core.Bool.{Bool, true, false, cond, not}
 use lib.Dec.{T, ltb, eqb, ltb→lt, nltb→le, lt→ltb, eqb→eq, not-T, lit<}
 use lib.Pow.{pow-pos, pow-mono, pow-lt, pow-add, shl-lt}
 use lib.Ieee.{Float, nan, inf, fin, binary64, isNan, size, nearest, odd, units, round, ofFields, ofBits, up, down}
-use lib.Ieee.Fits.{round-fits, eq→eqb}
+use lib.Ieee.Fits.{round-fits}
 use lib.Ieee.Bits.{is-true, is-false, cond-no, ofBits-fits}
 use lib.Ieee.Exact.{HasValue, odd-sign, round-exact}
 use lib.Ieee.Back.{whole-unique}
@@ -119,7 +119,7 @@ cut-lead t k h = cut-high 1 t k h
 
 -- ---- the three ranges of the exponent's field
 
-pub split : (a b : ℕ) → (a < b) ⊎ (b ≤ a)
+split : (a b : ℕ) → (a < b) ⊎ (b ≤ a)
 split a b = go (ltb a b) (ltb→lt a b) (nltb→le a b)
   where
     go : (p : Bool) → (T p → a < b) → (T (not p) → b ≤ a) → (a < b) ⊎ (b ≤ a)
@@ -137,7 +137,7 @@ module _ (y k : ℕ) (at : k + y ≡ 1074) (some : k ≤ 52) where
   unit-is : 2 ^ 1074 ≡ 2 ^ k * 2 ^ y
   unit-is = ap (λ (n : ℕ). 2 ^ n) (sym at) ∙ pow-add 2 k y
 
-  pub mag-mid : (t : ℕ) → mag (suc y) t / 2 ^ 1074 ≡ (4503599627370496 + t) / 2 ^ k
+  mag-mid : (t : ℕ) → mag (suc y) t / 2 ^ 1074 ≡ (4503599627370496 + t) / 2 ^ k
   mag-mid t = ap (λ (n : ℕ). mag (suc y) t / n) unit-is ∙ mul-div-mul-right (4503599627370496 + t) (2 ^ k) (pow-pos y)
 
   mag-whole : (c n : ℕ) → c ≡ n * 2 ^ k → c * 2 ^ y ≡ n * 2 ^ 1074
@@ -155,7 +155,7 @@ trunc-own s x t n X H e =
     whole-pattern s x t n X H e
     ∙ sym (trunc-val (ofFields binary64 s x t) s (mag x t) (fields-val s x t X) ∙ ap (wholeNumber s) (ap (λ (a : ℕ). a / 2 ^ 1074) e ∙ mul-div-cancel n (pow-pos 1074)))
 
-pub mag-high : (x t : ℕ) → 1075 ≤ x → mag x t ≡ lead x t * 2 ^ (place x - 1074) * 2 ^ 1074
+mag-high : (x t : ℕ) → 1075 ≤ x → mag x t ≡ lead x t * 2 ^ (place x - 1074) * 2 ^ 1074
 mag-high zero t h = absurd (omega arith)
 mag-high (suc y) t h =
     ap (λ (n : ℕ). (4503599627370496 + t) * n) (ap (λ (n : ℕ). 2 ^ n) (sym (rejoin y h)) ∙ pow-add 2 (y - 1074) 1074)

@@ -1,8 +1,7 @@
 -- The port's constants: each pattern that the code's literal has is that whole number. The rule is `literal`; a further constant is three such lines.
 -- Assumes nothing.
-use mathlib.Core.Path.{_≡_, refl}
 use lib.IntN.{pos}
-use lib.Ieee.{binary64, ofBits, ofInt}
+use lib.Ieee.{binary64, ofBits}
 use Rattle.float.specs.Whole.{IsWhole}
 use Rattle.float.proofs.Literal.{literal}
 

@@ -1,6 +1,6 @@
 -- The definitions at written values, computed: each row's answers are those of another program (Python's math.floor, math.trunc, math.fmod and int). A value
 -- is written as its pattern. Assumes nothing.
-use mathlib.Core.Bool.{Bool, true, false, _&&_}
+use mathlib.Core.Bool.{Bool, true, _&&_}
 use mathlib.Core.List.{List, [], _∷_}
 use Prim.Native.Nat.{ℕ}
 use lib.Dec.{T, eqb}

@@ -1,14 +1,14 @@
 -- The remainder of two floats by their digits and places, and the pattern of a number of smallest values. Assumes nothing.
 use mathlib.Core.Path.{_≡_, refl, sym, ap, ap₂, _∙_, subst}
 use Prim.Native.Nat.{ℕ, zero, suc, _+_, _-_, _*_, _/_, _%_, _^_, _≤_, _<_, compare}
-use native.Mathlib.Nat.{mul-one, mul-assoc, mul-comm, mul-right-comm, mul-pos, div-add-mod', mod-lt, add-mul, mul-add-mod-self-right, eq-of-mul-eq-mul-right, lt-of-lt-of-le, lt-irrefl, zero-mul, mod-eq-of-lt, mul-div-cancel, div-div-eq-div-mul, div-one, div-eq-of-lt, pow-suc, pow-succ', lt-trans, mul-le-mul-right, mul-le-mul-left, lt-of-le-of-lt, le-trans, le-of-eq, le-of-lt, add-comm}
+use native.Mathlib.Nat.{mul-one, mul-assoc, mul-comm, mul-right-comm, mul-pos, div-add-mod', mod-lt, add-mul, mul-add-mod-self-right, eq-of-mul-eq-mul-right, lt-of-lt-of-le, lt-irrefl, zero-mul, mod-eq-of-lt, mul-div-cancel, div-div-eq-div-mul, div-one, div-eq-of-lt, pow-suc, pow-succ', lt-trans, mul-le-mul-right, mul-le-mul-left, lt-of-le-of-lt, le-trans, le-of-eq, add-comm}
 use native.Mathlib.Omega.{arith}
 use mathlib.Core.Bool.{Bool, true, false, cond, not}
-use lib.IntN.{ℤ, pos}
+use lib.IntN.{pos}
 use lib.Dec.{T, ltb, eqb, eqb→eq, not-T, lit≤, ltb→lt, nltb→le}
 use mathlib.Core.Logic.{_⊎_, inl, inr}
 use lib.Count.{leadingZeros, leading-top, trailingZeros, under}
-use lib.Pow.{pow-pos, pow-mono, pow-add, shl-lt, shl-exact}
+use lib.Pow.{pow-pos, pow-mono, pow-add, shl-lt}
 use lib.Ieee.{Float, nan, inf, fin, binary64, fits, isNan, up, down, size, nearest, odd, round, rem, ofFields, ofBits, toBits}
 use lib.Ieee.Fits.{down-pos, round-fits}
 use lib.Ieee.Bits.{cond-no, ofBits-fits, ofBits-toBits}

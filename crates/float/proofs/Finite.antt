@@ -1,16 +1,16 @@
 -- `x - x == 0.0` tests that x is finite. Assumes nothing.
-use mathlib.Core.Path.{_≡_, refl, sym, ap, ap₂, _∙_, subst}
-use Prim.Native.Nat.{ℕ, zero, suc, _+_, _-_, _*_, _^_, _≤_, _<_, zero-le}
+use mathlib.Core.Path.{_≡_, refl, sym, ap, _∙_, subst}
+use Prim.Native.Nat.{ℕ, _+_, _-_, _*_, _<_, zero-le}
 use native.Mathlib.Nat.{sub-self, le-refl, mul-pos, zero-lt-suc, zero-mul}
 use mathlib.Core.Bool.{Bool, true, false, not, _&&_, Bool·beq, cond}
-use lib.IntN.{ℤ, pos, natAbs}
+use lib.IntN.{pos}
 use lib.Dec.{T, ltb}
 use lib.Arith.{le→nltb}
-use lib.Ieee.{Float, nan, inf, fin, Format, prec, up, down, round, sum, add, sub, neg, eq}
+use lib.Ieee.{Float, nan, inf, fin, Format, up, down, round, sum, add, sub, neg, eq}
 use lib.Ieee.Bits.{cond-no, is-false}
 use lib.Ieee.Fits.{down-pos}
 use lib.Ieee.Scale.{round-same, finite}
-use Rattle.float.specs.Whole.{signed, IsWhole}
+use Rattle.float.specs.Whole.{IsWhole}
 use Rattle.float.proofs.Whole.{round-is-whole}
 use Rattle.float.proofs.Order.{eq-whole}
 

@@ -1,12 +1,12 @@
 -- A fraction's whole part, its ceiling and its floor do not depend on how it is written; and where it lies strictly between q and q + 1, what they are.
 -- Assumes nothing.
 use mathlib.Core.Path.{_≡_, refl, sym, ap, ap₂, _∙_, subst}
-use Prim.Native.Nat.{ℕ, zero, suc, _+_, _*_, _/_, _%_, _≤_, _<_}
+use Prim.Native.Nat.{ℕ, zero, suc, _+_, _*_, _/_, _%_, _<_}
 use native.Mathlib.Nat.{mul-one, add-zero, zero-mod, zero-div, zero-mul, lt-irrefl, le-of-lt, zero-lt-suc, mul-right-comm, div-eq-of-lt-le, eq-of-mul-eq-mul-right, div-add-mod', mul-div-cancel, mul-mod-left, suc-mul, mod-lt}
 use native.Mathlib.Numerals.{add-one}
 use native.Mathlib.Omega.{arith}
 use mathlib.Core.Bool.{Bool, true, false, not, cond}
-use lib.IntN.{ℤ, pos, negsuc, negℤ, natAbs}
+use lib.IntN.{pos, negsuc, negℤ, natAbs}
 use lib.Dec.{T, eqb, eqb→eq, not-T}
 use lib.Ieee.Bits.{is-true, is-false}
 use lib.Ieee.Fits.{eq→eqb}

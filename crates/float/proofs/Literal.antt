@@ -1,8 +1,8 @@
 -- A float that is written out, as a whole number: one computed test. Assumes nothing.
-use mathlib.Core.Path.{_≡_, refl}
+use mathlib.Core.Path.{refl}
 use Prim.Native.Nat.{_*_}
-use mathlib.Core.Bool.{Bool, true, false, _&&_}
-use lib.IntN.{ℤ, pos, negsuc, natAbs}
+use mathlib.Core.Bool.{Bool, false, _&&_}
+use lib.IntN.{ℤ, pos, natAbs}
 use lib.Dec.{T, eqb, eqb→eq}
 use lib.Ieee.{Float, nan, inf, fin, up, down, binary64, ofBits}
 use lib.Ieee.Fits.{and-l, and-r}

@@ -1,15 +1,15 @@
 -- `%` and `rem_euclid` of whole floats: the remainder, exactly. Assumes nothing.
-use mathlib.Core.Path.{_≡_, refl, sym, ap, ap₂, _∙_, subst}
+use mathlib.Core.Path.{_≡_, refl, sym, ap, _∙_, subst}
 use mathlib.Core.Logic.{_⊎_, inl, inr}
-use Prim.Native.Nat.{ℕ, zero, suc, _+_, _-_, _*_, _/_, _%_, _^_, _≤_, _<_}
-use native.Mathlib.Nat.{zero-mod, mod-lt, mod-self, mod-eq-of-lt, suc-mod, eq-or-lt-of-le, le-trans, le-of-lt, zero-lt-suc, sub-self, sub-le, lt-of-lt-of-le}
+use Prim.Native.Nat.{ℕ, zero, suc, _-_, _%_, _^_, _≤_, _<_}
+use native.Mathlib.Nat.{zero-mod, mod-lt, mod-self, mod-eq-of-lt, suc-mod, eq-or-lt-of-le, le-trans, le-of-lt, sub-self, sub-le}
 use native.Mathlib.Omega.{arith}
-use mathlib.Core.Bool.{Bool, true, false, not, cond}
-use lib.IntN.{ℤ, pos, negsuc, negℤ, natAbs, subℕ, _+ℤ_}
+use mathlib.Core.Bool.{Bool, true, false, cond}
+use lib.IntN.{ℤ, pos, negsuc, negℤ, natAbs, _+ℤ_}
 use lib.Signed.{ltZ, remZ}
-use lib.Dec.{T, ltb, ltb→lt}
+use lib.Dec.{ltb}
 use lib.Arith.{le→nltb}
-use lib.Ieee.{Float, Format, binary64, prec, round, rem, add, lt}
+use lib.Ieee.{Float, Format, binary64, prec, rem, add, lt}
 use lib.Ieee.Bits.{cond-no, is-false}
 use Rattle.ecma262.specs.Whole.{floorMod}
 use Rattle.float.specs.Whole.{signed, IsWhole}

@@ -1,14 +1,14 @@
 -- The operations at two values whose sizes are whole numbers: each is `round` of the whole numbers' own result. Assumes nothing.
-use mathlib.Core.Path.{_≡_, refl, sym, ap, ap₂, _∙_, subst}
-use Prim.Native.Nat.{ℕ, zero, suc, _+_, _-_, _*_, _/_, _%_, _^_, _≤_, _<_}
-use native.Mathlib.Nat.{mul-mul-mul-comm, mul-one, zero-mul, mul-pos, lt-irrefl, zero-lt-suc, mul-comm, mul-assoc, mul-left-comm, mul-right-comm, add-mul, mul-sub, mul-lt-mul-of-pos-right, lt-of-mul-lt-mul-right, div-add-mod', mod-lt}
-use mathlib.Core.Bool.{Bool, true, false, not, _&&_, Bool·beq, cond}
+use mathlib.Core.Path.{_≡_, sym, ap, ap₂, _∙_, subst}
+use Prim.Native.Nat.{ℕ, _+_, _-_, _*_, _/_, _%_, _<_}
+use native.Mathlib.Nat.{mul-mul-mul-comm, mul-one, zero-mul, mul-pos, lt-irrefl, zero-lt-suc, mul-comm, mul-assoc, mul-left-comm, add-mul, mul-sub, mul-lt-mul-of-pos-right, lt-of-mul-lt-mul-right, div-add-mod', mod-lt}
+use mathlib.Core.Bool.{Bool, not, _&&_, Bool·beq, cond}
 use lib.Dec.{T, ltb, eqb, ltb→lt, lt→ltb, eqb→eq, not-T}
 use lib.Arith.{digits-mod}
 use lib.IntN.{ℤ}
 use lib.Ieee.{Float, nan, inf, fin, Format, unlike, up, down, round, sum, add, mul, div, rem}
 use lib.Ieee.Bits.{cond-no}
-use lib.Ieee.Fits.{down-pos, up-pos}
+use lib.Ieee.Fits.{down-pos}
 use lib.Ieee.Exact.{HasValue}
 use lib.Ieee.Scale.{round-same}
 use Rattle.float.proofs.Fractions.{same-test}

@@ -1,13 +1,13 @@
 -- The order of whole floats is that of the whole numbers; and what each outcome of a test in the code says of them. Assumes nothing.
 use mathlib.Core.Path.{_≡_, refl, sym, ap, ap₂, _∙_, subst}
 use Prim.Native.Nat.{ℕ, zero, suc, _+_, _*_, _/_, _≤_, _<_}
-use native.Mathlib.Nat.{zero-add, mul-pos, mul-comm, mul-assoc, add-mul, zero-mul, lt-irrefl, zero-lt-suc, eq-of-mul-eq-mul-right, suc-add, mul-right-comm, le-of-suc-le-suc, div-lt-iff-lt-mul, lt-of-mul-lt-mul-right, mul-lt-mul-of-pos-right, lt-of-le-of-lt, le-refl}
+use native.Mathlib.Nat.{zero-add, mul-pos, add-mul, zero-mul, zero-lt-suc, eq-of-mul-eq-mul-right, mul-right-comm, le-of-suc-le-suc, div-lt-iff-lt-mul, lt-of-mul-lt-mul-right, mul-lt-mul-of-pos-right, lt-of-le-of-lt, le-refl}
 use native.Mathlib.Omega.{arith}
 use mathlib.Core.Bool.{Bool, true, false, not, _&&_, _||_, Bool·beq, true≢false}
 use mathlib.Core.Logic.{_≢_}
-use lib.IntN.{ℤ, pos, negsuc, negℤ, natAbs, pos-ne-negsuc}
+use lib.IntN.{ℤ, pos, negsuc, natAbs}
 use lib.Signed.{ltZ, leZ, _≤ℤ_, _<ℤ_, leZ-yes, ltZ-yes, clashℤ}
-use lib.Dec.{T, leb, ltb, eqb, ltb→lt, lt→ltb, leb→le, le→leb, eqb→eq, eqb-refl, nltb→le, not-T, leb·zero, leb·suc-zero, leb·suc-suc, eqb·zero-suc, eqb·suc-zero, eqb·suc-suc}
+use lib.Dec.{T, leb, ltb, eqb, ltb→lt, lt→ltb, eqb→eq, eqb-refl, nltb→le, not-T, leb·zero, leb·suc-zero, leb·suc-suc, eqb·zero-suc, eqb·suc-zero, eqb·suc-suc}
 use lib.Ieee.{Float, nan, inf, fin, up, down, below, level, lt, eq, le, ne}
 use lib.Ieee.Fits.{down-pos, eq→eqb, and-l, and-r}
 use lib.Ieee.Exact.{HasValue}

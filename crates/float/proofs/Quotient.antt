@@ -1,17 +1,16 @@
 -- THE DIVISION LAW, once for all divisors: for a whole number t below 2 ^ 53 in magnitude and a whole divisor d from 1 up to 2 ^ 53, the floor of the rounded
 -- quotient is the floor of the quotient. Assumes nothing.
-use mathlib.Core.Path.{_≡_, refl, sym, ap, ap₂, _∙_, subst}
+use mathlib.Core.Path.{_≡_, refl, sym, ap, _∙_, subst}
 use mathlib.Core.Logic.{_⊎_, inl, inr}
-use Prim.Native.Nat.{ℕ, zero, suc, _+_, _*_, _-_, _/_, _%_, _^_, _≤_, _<_}
+use Prim.Native.Nat.{ℕ, zero, suc, _+_, _*_, _-_, _/_, _%_, _^_, _<_}
 use native.Mathlib.Nat.{eq-zero-or-pos, mul-one, add-zero, zero-lt-suc, div-add-mod', suc-mul, mod-lt, zero-mod, suc-mod, mod-self}
 use native.Mathlib.Omega.{arith}
-use mathlib.Core.Bool.{Bool, true, false, cond}
+use mathlib.Core.Bool.{Bool, true, false}
 use lib.IntN.{ℤ, pos, natAbs}
 use lib.Dec.{T}
 use lib.Pow.{pow-pos}
-use lib.Ieee.{Float, nan, inf, fin, Format, binary64, prec, low, unlike, round, div}
+use lib.Ieee.{Float, Format, binary64, prec, low, unlike, round, div}
 use lib.Ieee.Fits.{div-fits}
-use lib.Ieee.Exact.{HasValue}
 use lib.Ieee.Scale.{grid, finite}
 use Rattle.ecma262.specs.Whole.{floorDiv, floorMod}
 use Rattle.float.specs.Whole.{signed, IsWhole, floorZ}

@@ -2,25 +2,25 @@
 -- number `floorZ x`: nothing is rounded. A whole number is its own floor and its own whole part. `HasValue x s a c` says that x is finite, has the sign s,
 -- and is a / c in size. Assumes nothing.
 use mathlib.Core.Path.{_≡_, refl, sym, ap, ap₂, _∙_, subst}
-use mathlib.Core.Logic.{_≢_}
 use Prim.Native.Nat.{ℕ, zero, suc, _+_, _-_, _*_, _/_, _%_, _^_, _≤_, _<_, compare}
 use native.Mathlib.Nat.{le-trans, le-of-eq, le-of-lt, mul-one, mul-assoc, zero-lt-suc, zero-mul, div-one, div-le-self, mod-one, mul-lt-mul-of-pos-right}
 use native.Mathlib.Omega.{arith}
-use mathlib.Core.Bool.{Bool, true, false, cond, not, _&&_, true≢false}
-use lib.IntN.{ℤ, pos, negsuc, negℤ, natAbs}
+use mathlib.Core.Bool.{Bool, true, false, cond, _&&_}
+use lib.IntN.{ℤ, pos, negsuc, natAbs}
 use lib.Dec.{T, ltb, leb, eqb, ltb→lt}
 use lib.Pow.{pow-pos, pow-add}
-use lib.Ieee.{Float, nan, inf, fin, binary64, up, down, fits, isNan, size, nearest, odd, units, round, ofInt}
-use lib.Ieee.Fits.{down-pos, and-l, and-r, round-fits, nan-fits, inf-fits}
+use lib.Ieee.{Float, nan, inf, fin, binary64, up, down, fits, size, nearest, odd, units, round, ofInt, ofBits, add, rem, lt}
+use lib.Ieee.Fits.{down-pos, and-l, and-r, round-fits, nan-fits, inf-fits, cond-fits, add-fits, rem-fits, ofInt-fits}
+use lib.Ieee.Bits.{ofBits-fits}
 use lib.Ieee.Exact.{HasValue, round-exact}
 use lib.Ieee.Back.{round-whole, whole-unique}
 use lib.Ieee.Nearest.{div-same}
 use lib.Ieee.Scale.{finite}
 use Rattle.ecma262.specs.Whole.{floorDiv}
 use Rattle.float.specs.Whole.{signed, IsWhole, floorZ, truncZ}
-use Rattle.float.specs.Rounding.{truncF, floorF, withSign, isNegative, absF, copysignF}
+use Rattle.float.specs.Rounding.{truncF, floorF, withSign, isNegative, absF, copysignF, remEuclidF, toIntegerOrInfinity}
 use Rattle.float.proofs.Fractions as frac
-use Rattle.float.proofs.Fractions.{ceil, ceil-same, floor-signed, floor-same, cut}
+use Rattle.float.proofs.Fractions.{ceil-same, floor-signed, floor-same, cut}
 
 -- ---- the f64 of a whole number, with a sign that also a zero has
 abbrev pub wholeNumber : Bool → ℕ → Float
@@ -122,7 +122,7 @@ down-le true m k h = go (eqb (m * 1 % 2 ^ suc k) 0) (m * 1 / 2 ^ suc k) (part-le
     go true n l = omega arith
     go false n l = omega arith
 
-pub trunc-exact : (s : Bool) (m : ℕ) (e : ℤ) → T (fits binary64 (fin s m e)) → HasValue (wholeNumber s (m * up e / down e)) s (m * up e / down e) 1
+trunc-exact : (s : Bool) (m : ℕ) (e : ℤ) → T (fits binary64 (fin s m e)) → HasValue (wholeNumber s (m * up e / down e)) s (m * up e / down e) 1
 trunc-exact s m (pos k) h = subst (λ (n : ℕ). HasValue (wholeNumber s n) s n 1) (sym (div-one (m * 2 ^ k))) (whole-large s m k h)
 trunc-exact s m (negsuc k) h = round-whole binary64 s (m * 1 / 2 ^ suc k) (le-trans (part-le m k) (le-of-lt (fits-lt s m (negsuc k) h)))
 
@@ -178,6 +178,17 @@ pub copysign-fits : (x y : Float) → T (fits binary64 x) → T (fits binary64 (
 unfolding copysignF
 copysign-fits x y h = sign-fits (isNegative y) x h
 
+pub rem-euclid-fits : (x y : Float) → T (fits binary64 x) → T (fits binary64 (remEuclidF x y))
+unfolding remEuclidF
+rem-euclid-fits x y h =
+    cond-fits binary64 (lt (rem binary64 x y) (ofBits binary64 0)) (add binary64 (rem binary64 x y) (absF y)) (rem binary64 x y) (add-fits binary64 (rem binary64 x y) (absF y)) (rem-fits binary64 x y h)
+
+pub integer-fits : (x : Float) → T (fits binary64 (toIntegerOrInfinity x))
+unfolding toIntegerOrInfinity
+integer-fits nan = ofBits-fits binary64 0
+integer-fits (inf s) = inf-fits binary64 s
+integer-fits (fin s m e) = ofInt-fits binary64 (truncZ (fin s m e))
+
 -- ---- of a whole number
 pub value-finite : (x : Float) (s : Bool) (a c : ℕ) → HasValue x s a c → T (finite x)
 value-finite nan s a c v = v
@@ -218,7 +229,7 @@ floor-own {x} h w =
     floor-value x (w .sign) (w .size) 1 (zero-lt-suc 0) (w .value) ∙ ap (wholeNumber (w .sign)) (down-whole (w .sign) (w .size) ∙ sym (div-one (w .size)))
     ∙ sym (trunc-value x (w .sign) (w .size) 1 (zero-lt-suc 0) (w .value)) ∙ trunc-own h w
 
-pub sign-value : (r : Bool) (x : Float) (s : Bool) (a c : ℕ) → HasValue x s a c → HasValue (withSign r x) r a c
+sign-value : (r : Bool) (x : Float) (s : Bool) (a c : ℕ) → HasValue x s a c → HasValue (withSign r x) r a c
 unfolding withSign
 sign-value r nan s a c v = absurd v
 sign-value r (inf t) s a c v = absurd v

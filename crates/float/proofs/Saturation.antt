@@ -1,152 +1,69 @@
--- The saturating casts. `|x| as u64` is worked out from x's digits and place, and every narrower cast is `x as i64` kept within its range. Assumes nothing.
+-- The saturating casts. `x as i64` beyond the range is the nearer end of it, and every narrower cast is `x as i64` kept within its range. Assumes nothing.
 use mathlib.Core.Path.{_≡_, refl, sym, ap, ap₂, _∙_, subst}
-use mathlib.Core.Logic.{_⊎_, inl, inr}
-use Prim.Native.Nat.{ℕ, zero, suc, _+_, _-_, _*_, _/_, _%_, _^_, _≤_, _<_, min}
-use native.Mathlib.Nat.{mul-one, zero-mul, zero-div, mul-div-cancel, div-eq-of-lt, lt-of-lt-of-le, lt-of-le-of-lt, le-trans, le-of-eq, mul-le-mul-right, mul-le-mul-left, mul-assoc, mod-lt, div-le-self, le-of-lt, zero-lt-suc}
+use Prim.Native.Nat.{ℕ, zero, suc, _+_, _-_, _*_, _/_, _^_, _≤_, _<_, min}
+use native.Mathlib.Nat.{mul-one, le-div-iff-mul-le, mul-pos}
 use native.Mathlib.Omega.{arith}
-use mathlib.Core.Bool.{Bool, true, false, not, cond, true≢false, false≢true}
-use lib.IntN.{ℤ, pos, negsuc, negℤ, natAbs, _-ℤ_, +ℤ-idl}
+use mathlib.Core.Bool.{Bool, true, false, not, _||_, true≢false, false≢true}
+use lib.IntN.{ℤ, pos, negsuc, negℤ, natAbs}
 use lib.Signed as sgn
 use lib.Signed.{ltZ, nonNeg}
-use lib.Dec.{T, ltb, lt→ltb, ltb→lt, nltb→le, lit≤, lit<}
-use lib.Pow.{pow-pos, pow-mono, pow-add, shl-lt}
-use lib.Ieee.{Float, nan, inf, fin, binary64, fits, isNan, up, down, lt, ofBits, toBits, toUnsigned, toSigned}
-use lib.Ieee.Bits.{is-true, is-false}
-use lib.Ieee.Fits.{down-pos}
-use lib.Ieee.Exact.{HasValue}
-use lib.Ieee.Nearest.{div-same}
+use lib.Dec.{T, ltb, ltb→lt, lt→ltb, nltb→le}
+use lib.Pow.{pow-pos}
+use lib.Ieee.{Float, nan, inf, fin, binary64, isNan, up, down, lt, le, eq, neg, ofBits, toUnsigned, toSigned}
+use lib.Ieee.Bits.{is-true}
 use lib.Ieee.Casts.{toSigned-in}
+use lib.Ieee.Fits.{down-pos}
 use mir.Syntax.{w64}
-use mir.Val.{toZ, ofZ, SFits}
-use mir.Facts.{toZ-ofZ, toZ-pos}
+use mir.Val.{toZ, ofZ}
+use mir.Facts.{toZ-ofZ}
+use Rattle.ecma262.proofs.Machine.{false-T}
 use Rattle.ecma262.proofs.Int.{plus, neg-fact}
-use Rattle.float.specs.Rounding.{withSign, absF}
-use Rattle.float.specs.Patterns.{lead, place, mag}
-use Rattle.float.proofs.Rounding.{sign-value}
-use Rattle.float.proofs.Patterns.{bits-lt, bits-back}
-use Rattle.float.proofs.Clearing.{lead-lt, mag-lt, mag-mid, mag-high, split}
-use Rattle.float.proofs.Digits.{Finite, finite, is-inf}
 
--- ---- `|x| as u64` from the exponent's field e and the digits
-toUnsigned-value : (k : ℕ) (x : Float) (a c : ℕ) → 0 < c → HasValue x false a c → toUnsigned k x ≡ min (a / c) (2 ^ k - 1)
-unfolding toUnsigned
-toUnsigned-value k nan a c C v = absurd v
-toUnsigned-value k (inf t) a c C v = absurd v
-toUnsigned-value k (fin true m e) a c C v = absurd (true≢false (v .0))
-toUnsigned-value k (fin false m e) a c C v = ap (λ (n : ℕ). min n (2 ^ k - 1)) (div-same (m * up e) (down e) a c (down-pos e) C (v .1))
+-- ---- `x as i64` beyond the range
 
-abs-inf : (s : Bool) → toUnsigned 64 (absF (inf s)) ≡ 0xffff_ffff_ffff_ffff
-unfolding toUnsigned absF
-abs-inf s = refl
+-- a fraction X / D that is not below n
+reaches : (X D n : ℕ) → 0 < D → ltb (X * 1) (n * D) ≡ false → n ≤ X / D
+reaches X D n P t = le-div-iff-mul-le P .1 (subst (λ (i : ℕ). n * D ≤ i) (mul-one X) (nltb→le (X * 1) (n * D) (false-T (ltb (X * 1) (n * D)) t)))
 
-pub whole-nan : toUnsigned 64 (absF nan) ≡ 0
-unfolding toUnsigned absF
-whole-nan = refl
+some : (a b : ℕ) → 0 < b → ltb 0 (a + b) ≡ true
+some a b h = is-true (ltb 0 (a + b)) (lt→ltb 0 (a + b) (omega arith))
 
-kept : (a : ℕ) → a < 2 ^ 64 → min a (2 ^ 64 - 1) ≡ a
-kept a h = omega arith
+some-left : (a b : ℕ) → 0 < a → ltb 0 (a + b) ≡ true
+some-left a b h = is-true (ltb 0 (a + b)) (lt→ltb 0 (a + b) (omega arith))
 
-capped : (a : ℕ) → 2 ^ 64 ≤ a → min a (2 ^ 64 - 1) ≡ 0xffff_ffff_ffff_ffff
-capped a h = omega arith
+left-of : (a b : Bool) → (a || b) ≡ false → a ≡ false
+left-of true b e = e
+left-of false b e = refl
 
-lead-some : (e t : ℕ) → 0 < e → 2 ^ 52 ≤ lead e t
-lead-some zero t h = absurd (omega arith)
-lead-some (suc e) t h = omega arith
-
-high-is : (e t : ℕ) → 1075 ≤ e → mag e t / 2 ^ 1074 ≡ lead e t * 2 ^ (e - 1075)
-high-is zero t h = absurd (omega arith)
-high-is (suc y) t h =
-    ap (λ (n : ℕ). n / 2 ^ 1074) (mag-high (suc y) t h) ∙ mul-div-cancel (lead (suc y) t * 2 ^ (y - 1074)) (pow-pos 1074)
-    ∙ ap (λ (n : ℕ). lead (suc y) t * 2 ^ n) (same y)
+pub above-range : (x : Float) → T (not (isNan x)) → lt x (ofBits binary64 0x43e0_0000_0000_0000) ≡ false → pos 9223372036854775807 ≡ toSigned 63 x
+unfolding isNan lt ofBits toSigned
+above-range nan n t = absurd n
+above-range (inf true) n t = absurd (true≢false t)
+above-range (inf false) n t = refl
+above-range (fin true m e) n t = absurd (true≢false (sym (some (m * up e * 1) (9223372036854775808 * down e) (mul-pos (pow-pos 63) (down-pos e))) ∙ t))
+above-range (fin false m e) n t = ap pos (cap (m * up e / down e) (reaches (m * up e) (down e) 9223372036854775808 (down-pos e) t))
   where
-    same : (y : ℕ) → y - 1074 ≡ suc y - 1075
-    same y = omega arith
+    cap : (a : ℕ) → 9223372036854775808 ≤ a → 9223372036854775807 ≡ min a 9223372036854775807
+    cap a h = omega arith
 
-mid-is : (e t : ℕ) → 1023 ≤ e → e < 1075 → mag e t / 2 ^ 1074 ≡ lead e t / 2 ^ (1075 - e)
-mid-is zero t h l = absurd (omega arith)
-mid-is (suc y) t h l = mag-mid y (1075 - suc y) (omega arith) (omega arith) t
+pub below-range : (x : Float) → lt x (ofBits binary64 0x43e0_0000_0000_0000) ≡ true → le (neg (ofBits binary64 0x43e0_0000_0000_0000)) x ≡ false → negsuc 9223372036854775807 ≡ toSigned 63 x
+unfolding lt le eq neg ofBits toSigned
+below-range nan h t = absurd (false≢true h)
+below-range (inf true) h t = refl
+below-range (inf false) h t = absurd (false≢true h)
+below-range (fin false m e) h t = absurd (true≢false (sym (some-left (9223372036854775808 * down e) (m * up e * 1) (mul-pos (pow-pos 63) (down-pos e))) ∙ left-of (ltb 0 (9223372036854775808 * down e + m * up e * 1)) (eq (fin true 1 (pos 63)) (fin false m e)) t))
+below-range (fin true m e) h t =
+    ap (λ (n : ℕ). negℤ (pos n)) (cap (m * up e / down e) (reaches (m * up e) (down e) 9223372036854775808 (down-pos e) (left-of (ltb (m * up e * 1) (9223372036854775808 * down e)) (eq (fin true 1 (pos 63)) (fin true m e)) t)))
+  where
+    cap : (a : ℕ) → 9223372036854775808 ≤ a → 9223372036854775808 ≡ min a 9223372036854775808
+    cap a h = omega arith
 
-module _ (x : Float) (held : T (fits binary64 x)) (number : T (not (isNan x))) where
-  abbrev e : ℕ
-  e = toBits binary64 x / 2 ^ 52 % 2 ^ 11
+pub signed-nan : pos 0 ≡ toSigned 63 nan
+unfolding toSigned
+signed-nan = refl
 
-  abbrev t : ℕ
-  t = toBits binary64 x % 2 ^ 52
-
-  digits : t < 2 ^ 52
-  digits = mod-lt (toBits binary64 x) (pow-pos 52)
-
-  whole-is : e < 2047 → toUnsigned 64 (absF x) ≡ min (mag e t / 2 ^ 1074) (2 ^ 64 - 1)
-  unfolding absF
-  whole-is h =
-      let F = finite (toBits binary64 x) (bits-lt x held) h in
-      toUnsigned-value 64 (withSign false x) (mag e t) (2 ^ 1074) (pow-pos 1074)
-      (sign-value false x (F .s) (mag e t) (2 ^ 1074) (subst (λ (v : Float). HasValue v (F .s) (mag e t) (2 ^ 1074)) (bits-back x held) (F .value)))
-
-  pub whole-low : e < 1023 → 0 ≡ toUnsigned 64 (absF x)
-  whole-low h =
-      sym (whole-is (omega arith) ∙ ap (λ (n : ℕ). min n (2 ^ 64 - 1)) (div-eq-of-lt (mag-lt e t 1021 digits (omega arith))) ∙ kept 0 (lit< tt))
-
-  pub whole-mid : 1023 ≤ e → e < 1075 → lead e t / 2 ^ (1075 - e) ≡ toUnsigned 64 (absF x)
-  whole-mid h l =
-      sym (whole-is (omega arith) ∙ ap (λ (n : ℕ). min n (2 ^ 64 - 1)) (mid-is e t h l)
-      ∙ kept (lead e t / 2 ^ (1075 - e)) (lt-of-le-of-lt (div-le-self (lead e t) (2 ^ (1075 - e))) (lt-of-lt-of-le (lead-lt e t digits) (lit≤ {m = 2 ^ 53} {n = 2 ^ 64} tt))))
-
-  pub whole-fits : 1075 ≤ e → e ≤ 1086 → lead e t * 2 ^ (e - 1075) < 2 ^ 64
-  whole-fits h l = lt-of-lt-of-le (shl-lt 53 (e - 1075) (lead-lt e t digits)) (pow-mono {i = 53 + (e - 1075)} {j = 64} (omega arith))
-
-  pub whole-high : 1075 ≤ e → e ≤ 1086 → lead e t * 2 ^ (e - 1075) ≡ toUnsigned 64 (absF x)
-  whole-high h l =
-      sym (whole-is (omega arith) ∙ ap (λ (n : ℕ). min n (2 ^ 64 - 1)) (high-is e t h) ∙ kept (lead e t * 2 ^ (e - 1075)) (whole-fits h l))
-
-  pub whole-over : 1086 < e → 0xffff_ffff_ffff_ffff ≡ toUnsigned 64 (absF x)
-  whole-over h = elim (split e 2047) [
-    | inl f ↦
-        sym (whole-is f ∙ ap (λ (n : ℕ). min n (2 ^ 64 - 1)) (high-is e t (omega arith))
-        ∙ capped (lead e t * 2 ^ (e - 1075))
-        (le-trans (le-trans (pow-mono {i = 64} {j = 52 + (e - 1075)} (omega arith)) (le-of-eq (pow-add 2 52 (e - 1075)))) (mul-le-mul-right (2 ^ (e - 1075)) (lead-some e t (omega arith)))))
-    | inr f ↦
-        let i = is-inf x held number (ones f) in
-        sym (ap (λ (v : Float). toUnsigned 64 (absF v)) (i .1) ∙ abs-inf (i .0))
-  ]
-    where
-      ones : 2047 ≤ e → e ≡ 2047
-      ones f = let l : e < 2 ^ 11 = mod-lt (toBits binary64 x / 2 ^ 52) (pow-pos 11) in omega arith
-
--- ---- `x as i64` from `|x| as u64`
 narrow : (a b c : ℕ) → c ≤ b → min a (c - 1) ≡ min (min a (b - 1)) (c - 1)
 narrow a b c h = omega arith
-
-narrow-half : (a : ℕ) → min a 9223372036854775808 ≡ min (min a (2 ^ 64 - 1)) 9223372036854775808
-narrow-half a = omega arith
-
--- a negative zero
-none : (m u d : ℕ) → ltb 0 (m * u * 1 + 0 * 1 * d) ≡ false → m * u ≡ 0
-none m u d e = go (m * u) (subst (λ (b : Bool). T (not b)) (sym e) tt)
-  where
-    go : (a : ℕ) → T (not (ltb 0 (a * 1 + 0 * 1 * d))) → a ≡ 0
-    go a t = let l : a * 1 + 0 * 1 * d ≤ 0 = nltb→le 0 (a * 1 + 0 * 1 * d) t in omega (arith, zero-mul d)
-
-never : (a b : ℕ) → ltb a (0 * 1 * b) ≡ true → ⊥
-never a b e = let l : a < 0 * 1 * b = ltb→lt a (0 * 1 * b) (subst T (sym e) tt) in omega (arith, zero-mul b)
-
-pub toSigned-plus : (x : Float) → lt x (ofBits binary64 0) ≡ false → toSigned 63 x ≡ pos (min (toUnsigned 64 (absF x)) 9223372036854775807)
-unfolding toSigned toUnsigned absF lt ofBits
-toSigned-plus nan h = refl
-toSigned-plus (inf true) h = absurd (true≢false h)
-toSigned-plus (inf false) h = refl
-toSigned-plus (fin false m e) h = ap pos (narrow (m * up e / down e) (2 ^ 64) 9223372036854775808 (lit≤ tt))
-toSigned-plus (fin true m e) h =
-    let z : m * up e / down e ≡ 0 = ap (λ (n : ℕ). n / down e) (none m (up e) (down e) h) ∙ zero-div (down e) in
-    ap (λ (n : ℕ). negℤ (pos (min n 9223372036854775808))) z ∙ sym (ap (λ (n : ℕ). pos (min (min n 18446744073709551615) 9223372036854775807)) z)
-
-pub toSigned-minus : (x : Float) → lt x (ofBits binary64 0) ≡ true → toSigned 63 x ≡ negℤ (pos (min (toUnsigned 64 (absF x)) 9223372036854775808))
-unfolding toSigned toUnsigned absF lt ofBits
-toSigned-minus nan h = absurd (false≢true h)
-toSigned-minus (inf true) h = refl
-toSigned-minus (inf false) h = absurd (false≢true h)
-toSigned-minus (fin false m e) h = absurd (never (m * up e * 1) (down e) h)
-toSigned-minus (fin true m e) h = ap (λ (n : ℕ). negℤ (pos n)) (narrow-half (m * up e / down e))
 
 -- ---- a narrower cast from `x as i64`
 -- z, or the nearer end of the range from -H to H - 1
@@ -204,20 +121,7 @@ toUnsigned-narrow k (fin true m e) l = go (2 ^ k) (neg-fact (pos (min (m * up e 
     go H e = omega arith
 toUnsigned-narrow k (fin false m e) l = narrow (m * up e / down e) 9223372036854775808 (2 ^ k) l
 
--- ---- the machine's signed integers: n below 2 ^ 63 turned negative, and a result of `as_i64` read back
-minus-is : (n : ℕ) → n < 2 ^ 63 → pos 0 -ℤ toZ w64 n ≡ negℤ (pos n)
-minus-is n h = ap (λ (z : ℤ). pos 0 -ℤ z) (toZ-pos w64 h) ∙ +ℤ-idl (negℤ (pos n))
-
-pub minus-fits : (n : ℕ) → n < 2 ^ 63 → SFits w64 (pos 0 -ℤ toZ w64 n)
-minus-fits n h = subst (SFits w64) (sym (minus-is n h)) (record { sfits = small n h })
-  where
-    small : (n : ℕ) → n < 2 ^ 63 → sgn.mag (negℤ (pos n)) < 2 ^ 63
-    small zero h = h
-    small (suc n) h = le-of-lt h
-
-pub minus-back : (n : ℕ) → n < 2 ^ 63 → toZ w64 (ofZ w64 (pos 0 -ℤ toZ w64 n)) ≡ negℤ (pos n)
-minus-back n h = toZ-ofZ (minus-fits n h) ∙ minus-is n h
-
+-- ---- a result of `as_i64` read back
 read-back : (x : Float) (r : ℤ) → r ≡ toSigned 63 x → toZ w64 (ofZ w64 r) ≡ toSigned 63 x
 read-back x r e = ap (λ (z : ℤ). toZ w64 (ofZ w64 z)) e ∙ toZ-ofZ (record { sfits = toSigned-in 63 x })
 

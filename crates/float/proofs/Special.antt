@@ -2,15 +2,13 @@
 -- Assumes nothing.
 use mathlib.Core.Path.{_≡_, refl, subst}
 use mathlib.Core.Logic.{_⊎_, inl, inr}
-use Prim.Native.Nat.{ℕ}
 use mathlib.Core.Bool.{Bool, true, false, not, cond, Bool·beq, false≢true}
 use lib.Dec.{T, not-T, eqb}
-use lib.IntN.{ℤ}
-use lib.Ieee.{Float, nan, inf, fin, Format, binary64, unlike, add, sub, mul, div, rem, neg, lt, le, eq, ne, isNan, ofBits}
+use lib.Ieee.{Float, nan, inf, fin, Format, unlike, add, sub, mul, div, rem, neg, lt, le, eq, ne, isNan}
 use lib.Ieee.Bits.{is-false}
 use lib.Ieee.Compare.{differs-from-itself, nan-differs}
 use lib.Ieee.Scale.{finite}
-use Rattle.float.specs.Rounding.{withSign, truncF, floorF, absF, copysignF, remEuclidF, toIntegerOrInfinity}
+use Rattle.float.specs.Rounding.{truncF, floorF, absF, copysignF, remEuclidF, toIntegerOrInfinity}
 
 -- ---- the tests `x != x` and `is_finite`
 number : (x : Float) → T (not (isNan x)) → x ≡ nan → ⊥

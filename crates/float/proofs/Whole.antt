@@ -1,12 +1,12 @@
 -- Whole numbers in a float: an integer `as` a float, the sign, sums, differences and products, each exact to 2 ^ 53 in magnitude; one float for one whole
 -- number, but for 0, which is two. Assumes nothing.
 use mathlib.Core.Path.{_≡_, refl, sym, ap, ap₂, _∙_, subst}
-use mathlib.Core.Logic.{_≢_, _⊎_, inl, inr}
-use Prim.Native.Nat.{ℕ, zero, suc, _+_, _-_, _*_, _/_, _%_, _^_, _≤_, _<_}
-use native.Mathlib.Nat.{mul-one, le-of-lt, mul-pos, mul-zero, zero-mul, add-zero, lt-irrefl, zero-lt-suc, eq-zero-or-pos, sub-zero}
+use mathlib.Core.Logic.{_≢_}
+use Prim.Native.Nat.{ℕ, zero, suc, _+_, _-_, _*_, _^_, _≤_, _<_}
+use native.Mathlib.Nat.{mul-one, le-of-lt, mul-pos, mul-zero, zero-mul, add-zero, lt-irrefl, zero-lt-suc, sub-zero}
 use native.Mathlib.Omega.{arith}
 use mathlib.Core.Bool.{Bool, true, false, not, _&&_, cond}
-use lib.IntN.{ℤ, pos, negsuc, negℤ, natAbs, subℕ, _+ℤ_, _-ℤ_, _*ℤ_, negℤ-negℤ, negℤ-+ℤ, +ℤ-comm, pos-ne-negsuc}
+use lib.IntN.{ℤ, pos, negsuc, negℤ, natAbs, _+ℤ_, _-ℤ_, _*ℤ_, negℤ-negℤ, negℤ-+ℤ, +ℤ-comm, pos-ne-negsuc}
 use lib.Dec.{T, ltb, eqb, ltb→lt, lt→ltb, nltb→le, eqb→eq, not-T, T-not}
 use lib.Arith.{le→nltb}
 use lib.Ieee.{Float, nan, inf, fin, Format, binary64, prec, unlike, up, down, round, sum, neg, add, sub, mul, ofInt, ofBits, fits}

@@ -1,7 +1,6 @@
 -- What Rust's `floor`, `trunc`, `abs`, `copysign` and `rem_euclid` of an `f64` are, and ECMA-262's ToIntegerOrInfinity, over the values of
 -- logic/Lib/Ieee.antt. Definitions only.
-use Prim.Native.Nat.{ℕ}
-use mathlib.Core.Bool.{Bool, true, false, cond}
+use mathlib.Core.Bool.{Bool, false, cond}
 use lib.Ieee.{Float, nan, inf, fin, binary64, ofInt, ofBits, add, rem, lt}
 use Rattle.float.specs.Whole.{floorZ, truncZ}
 

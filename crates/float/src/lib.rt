@@ -1,4 +1,5 @@
-// floor, trunc, abs and copysign of an `f64`, worked out from its sign, exponent and fraction bits.
+// The f64 methods that the date functions use, worked out from sign, exponent and fraction bits. Each contract holds for every f64: NaN, infinities,
+// -0 and subnormals too. The definitions are in specs/, and the laws of whole numbers in f64 in proofs/.
 ghost use mathlib.Core.Path.{_≡_};
 ghost use mathlib.Core.Bool.{not, false};
 ghost use Prim.Native.Nat.{_+_, _-_, _*_, _/_, _%_, _^_, _<_, _≤_};
@@ -8,12 +9,13 @@ ghost use lib.Ieee.{binary64, ofBits, toBits, round, rem, isNan, toUnsigned, toS
 ghost use Rattle.float.specs.Rounding.{truncF, floorF, absF, copysignF, remEuclidF, toIntegerOrInfinity};
 ghost use Rattle.float.specs.Patterns.{fractionBits, lead, place};
 
-// b with its k lowest bits cleared.
-fn clear_low(b: u64, k: u64) -> u64
-    requires { ⌜ k < 64 ⌝ }
-    ensures { λ r. ⌜ r ≡ b / 2 ^ k * 2 ^ k ⌝ }
+// ---- a pattern's parts
+
+// The 11 bits of the exponent.
+fn exponent(b: u64) -> u64
+    ensures { λ r. ⌜ r ≡ b / 2 ^ 52 % 2 ^ 11 ⌝ }
 {
-    (b >> k) << k
+    (b >> 52) & 0x7ff
 }
 
 // b with its highest bit cleared.
@@ -23,11 +25,12 @@ fn without_sign(b: u64) -> u64
     b & 0x7fff_ffff_ffff_ffff
 }
 
-// The 11 bits of the exponent.
-fn exponent(b: u64) -> u64
-    ensures { λ r. ⌜ r ≡ b / 2 ^ 52 % 2 ^ 11 ⌝ }
+// b with its k lowest bits cleared.
+fn clear_low(b: u64, k: u64) -> u64
+    requires { ⌜ k < 64 ⌝ }
+    ensures { λ r. ⌜ r ≡ b / 2 ^ k * 2 ^ k ⌝ }
 {
-    (b >> 52) & 0x7ff
+    (b >> k) << k
 }
 
 // The highest bit of s, and the others of b.
@@ -37,19 +40,43 @@ fn join_sign(s: u64, b: u64) -> u64
     ((s >> 63) << 63) | (b & 0x7fff_ffff_ffff_ffff)
 }
 
-// Neither a NaN nor an infinity.
-pub fn is_finite(x: f64) -> bool
-    ensures { λ r. ⌜ r ≡ finite x ⌝ }
-{
-    x - x == 0.0
-}
+// ---- values and patterns
 
+// Rust's `is_nan`.
 pub fn is_nan(x: f64) -> bool
     ensures { λ r. ⌜ r ≡ isNan x ⌝ }
 {
     x != x
 }
 
+// Rust's `is_finite`: neither a NaN nor an infinity.
+pub fn is_finite(x: f64) -> bool
+    ensures { λ r. ⌜ r ≡ finite x ⌝ }
+{
+    x - x == 0.0
+}
+
+// The pattern of x, Rust's `to_bits`. A NaN's is 7ff8000000000000, whatever its sign and payload were: every NaN handed out has these bits.
+pub fn bits_of(x: f64) -> u64
+    ensures { λ r. ⌜ r ≡ toBits binary64 x ⌝ }
+{
+    if x != x {
+        return 0x7ff8_0000_0000_0000;
+    }
+    f64::to_bits(x)
+}
+
+// The value that n is the pattern of, Rust's `from_bits`: a NaN for each pattern of one.
+pub fn of_bits(n: u64) -> f64
+    ensures { λ r. ⌜ r ≡ ofBits binary64 n ⌝ }
+{
+    if without_sign(n) > 0x7ff0_0000_0000_0000 {
+        return 0.0 / 0.0;
+    }
+    f64::from_bits(n)
+}
+
+// Rust's `abs`: the sign's bit is cleared.
 pub fn abs(x: f64) -> f64
     ensures { λ r. ⌜ r ≡ absF x ⌝ }
 {
@@ -58,6 +85,21 @@ pub fn abs(x: f64) -> f64
     }
     f64::from_bits(without_sign(f64::to_bits(x)))
 }
+
+// Rust's `copysign`: the magnitude of x with the sign of y. A NaN y counts as positive.
+pub fn copysign(x: f64, y: f64) -> f64
+    ensures { λ r. ⌜ r ≡ copysignF x y ⌝ }
+{
+    if x != x {
+        return x;
+    }
+    if y != y {
+        return abs(x);
+    }
+    f64::from_bits(join_sign(f64::to_bits(y), f64::to_bits(x)))
+}
+
+// ---- the whole part and the floor: the bits below the point are cleared
 
 // How many of the lowest bits of a pattern lie below the point, where the exponent's field is e.
 fn fraction_bits(e: u64) -> u64
@@ -97,6 +139,7 @@ fn floor_bits(b: u64) -> u64
     c + (1 << k)
 }
 
+// Rust's `trunc`: toward zero. The sign stays, so -0.5 gives -0.0.
 pub fn trunc(x: f64) -> f64
     ensures { λ r. ⌜ r ≡ truncF x ⌝ }
 {
@@ -106,6 +149,7 @@ pub fn trunc(x: f64) -> f64
     f64::from_bits(trunc_bits(f64::to_bits(x)))
 }
 
+// Rust's `floor`: toward minus infinity. -0.0 gives -0.0, and -0.5 gives -1.0.
 pub fn floor(x: f64) -> f64
     ensures { λ r. ⌜ r ≡ floorF x ⌝ }
 {
@@ -115,17 +159,7 @@ pub fn floor(x: f64) -> f64
     f64::from_bits(floor_bits(f64::to_bits(x)))
 }
 
-pub fn copysign(x: f64, y: f64) -> f64
-    ensures { λ r. ⌜ r ≡ copysignF x y ⌝ }
-{
-    if x != x {
-        return x;
-    }
-    if y != y {
-        return abs(x);
-    }
-    f64::from_bits(join_sign(f64::to_bits(y), f64::to_bits(x)))
-}
+// ---- the remainder: a magnitude is digits, shifted up by a place, of the smallest value 2 ^ -1074
 
 // The digits of b's magnitude, the leading one with them where the exponent's field is not 0.
 fn lead_bits(b: u64) -> u64
@@ -220,7 +254,7 @@ fn rem_bits(a: u64, b: u64) -> u64
     join_sign(a, units_bits(shifted_rem(m % w, d - c, w), j + c))
 }
 
-// Rust's `x % y`, for every two.
+// Rust's `x % y`, for every two, without the C library's fmod.
 fn remainder(x: f64, y: f64) -> f64
     ensures { λ r. ⌜ r ≡ rem binary64 x y ⌝ }
 {
@@ -244,6 +278,7 @@ fn remainder(x: f64, y: f64) -> f64
     f64::from_bits(rem_bits(a, b))
 }
 
+// Rust's `rem_euclid`: x % y, and |y| more, rounded once, where that is below zero. A multiple of y below zero gives -0.0.
 pub fn rem_euclid(x: f64, y: f64) -> f64
     ensures { λ r. ⌜ r ≡ remEuclidF x y ⌝ }
 {
@@ -251,62 +286,20 @@ pub fn rem_euclid(x: f64, y: f64) -> f64
     if r < 0.0 { r + abs(y) } else { r }
 }
 
-// The bits of x. A NaN's are 7ff8000000000000, whatever its sign and payload were.
-pub fn bits_of(x: f64) -> u64
-    ensures { λ r. ⌜ r ≡ toBits binary64 x ⌝ }
-{
-    if x != x {
-        return 0x7ff8_0000_0000_0000;
-    }
-    f64::to_bits(x)
-}
+// ---- integers
 
-// The value that n is the pattern of: a NaN for each pattern of one.
-pub fn of_bits(n: u64) -> f64
-    ensures { λ r. ⌜ r ≡ ofBits binary64 n ⌝ }
-{
-    if without_sign(n) > 0x7ff0_0000_0000_0000 {
-        return 0.0 / 0.0;
-    }
-    f64::from_bits(n)
-}
-
-// The whole part of |x|, and u64::MAX where it is beyond: Rust's `x.abs() as u64`. A NaN gives 0.
-fn whole_part(x: f64) -> u64
-    ensures { λ r. ⌜ r ≡ toUnsigned 64 (absF x) ⌝ }
-{
-    if x != x {
-        return 0;
-    }
-    let b = f64::to_bits(x);
-    let e = exponent(b);
-    if e < 1023 {
-        return 0;
-    }
-    if e > 1086 {
-        return 0xffff_ffff_ffff_ffff;
-    }
-    let m = lead_bits(b);
-    if e < 1075 {
-        m >> (1075 - e)
-    } else {
-        m << (e - 1075)
-    }
-}
-
-// Rust's `x as i64`: toward zero, to the nearest end of the range where x is beyond it, and 0 for a NaN.
+// Rust's `x as i64`: toward zero, to the nearer end of the range where x is beyond it, and 0 for a NaN.
 pub fn as_i64(x: f64) -> i64
     ensures { λ r. ⌜ r ≡ toSigned 63 x ⌝ }
 {
-    let w = whole_part(x);
-    if x < 0.0 {
-        if w < 0x8000_0000_0000_0000 {
-            0 - (w as i64)
+    if x < 9223372036854775808.0 {
+        if x >= -9223372036854775808.0 {
+            std::num::truncating_f64_to_i64(x)
         } else {
             -0x7fff_ffff_ffff_ffff - 1
         }
-    } else if w < 0x8000_0000_0000_0000 {
-        w as i64
+    } else if x != x {
+        0
     } else {
         0x7fff_ffff_ffff_ffff
     }
@@ -354,7 +347,7 @@ pub fn as_u8(x: f64) -> u8
     }
 }
 
-// ECMA-262, ToIntegerOrInfinity of a number.
+// ECMA-262, ToIntegerOrInfinity of a number: NaN and -0.5 give +0.0, an infinity is itself, and any other is cut toward zero.
 pub fn to_integer_or_infinity(x: f64) -> f64
     ensures { λ r. ⌜ r ≡ toIntegerOrInfinity x ⌝ }
 {
@@ -362,8 +355,5 @@ pub fn to_integer_or_infinity(x: f64) -> f64
         return 0.0;
     }
     let t = trunc(x);
-    if t == 0.0 {
-        return 0.0;
-    }
-    t
+    if t == 0.0 { 0.0 } else { t }
 }

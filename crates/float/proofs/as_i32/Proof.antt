@@ -3,9 +3,6 @@ use borrow.Author.Needs.{needs}
 use mathlib.Core.Path.{refl, _∙_}
 use native.Mathlib.Omega.{arith}
 use lib.Dec.{lit≤}
-use lib.IntN.{ℤ}
-use mir.Syntax.{w32}
-use mir.Val.{SFits, toZ, ofZ}
 use mir.Facts.{toZ-ofZ}
 use Rattle.float.proofs.Saturation.{signed-low, signed-high, signed-kept}
 use Rattle.float.proofs.as_i32.Statement.{statement}

@@ -1,7 +1,6 @@
 -- `float::bits_of` meets its contract: `toBits` writes this pattern for `nan`. Assumes nothing.
 use borrow.Author.Needs.{needs}
 use mathlib.Core.Path.{_≡_, refl, sym, subst}
-use Prim.Native.Nat.{ℕ}
 use lib.Ieee.{Float, binary64, toBits}
 use Rattle.float.proofs.Patterns.{is-nan, is-number}
 use Rattle.float.proofs.bits_of.Statement.{statement}

@@ -3,7 +3,7 @@ use borrow.Author.Needs.{needs}
 use mathlib.Core.Path.{_≡_, refl, sym, ap, _∙_, subst}
 use lib.Dec.{T}
 use lib.Ieee.{Float, binary64, fits, ofBits}
-use Rattle.float.specs.Rounding.{absF, copysignF, withSign, isNegative}
+use Rattle.float.specs.Rounding.{absF, copysignF}
 use Rattle.float.proofs.Patterns.{is-nan, is-number, no-nan, copysign-bits, copysign-number}
 use Rattle.float.proofs.copysign.Statement.{statement}
 use Rattle.float.proofs.copysign.Tie as tie

@@ -8,11 +8,6 @@ use Rattle.float.proofs.Clearing.{cut, fraction, fraction-lt, Floor, fl
 use Rattle.float.specs.Rounding.{floorF}
 use Rattle.float.proofs.floor_bits.Statement.{statement}
 use Rattle.float.proofs.floor_bits.Tie as tie
-use Rattle.float.proofs.floor_bits.Reads as reads
-use Rattle.float.proofs.floor_bits.Lts as lts
-use Rattle.float.proofs.clear_low.Reads as clear-low-reads
-use Rattle.float.proofs.exponent.Reads as exponent-reads
-use Rattle.float.proofs.fraction_bits.Reads as fraction-bits-reads
 
 exponent-requires : tie.Need-exponent-requires
 exponent-requires c κs = search needs

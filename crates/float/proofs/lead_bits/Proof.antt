@@ -1,7 +1,7 @@
 -- `float::lead_bits` meets its contract. Assumes nothing.
 use borrow.Author.Needs.{needs}
-use mathlib.Core.Path.{_≡_, sym, ap, _∙_, subst}
-use Prim.Native.Nat.{ℕ, _+_, _/_, _%_, _^_, _<_}
+use mathlib.Core.Path.{sym, ap, _∙_}
+use Prim.Native.Nat.{ℕ, _+_, _/_, _%_, _^_}
 use native.Mathlib.Omega.{arith}
 use lib.Bits.{and-mask}
 use Rattle.float.proofs.Digits.{lead-none, lead-some}

@@ -4,8 +4,6 @@ use native.Mathlib.Omega.{arith}
 use Rattle.float.proofs.Digits.{zeros-all, zeros-fewer}
 use Rattle.float.proofs.low_zeros.Statement.{statement}
 use Rattle.float.proofs.low_zeros.Tie as tie
-use Rattle.float.proofs.low_zeros.Reads as reads
-use Rattle.float.proofs.low_zeros.Lts as lts
 
 cast-z : tie.Need-cast-z
 cast-z c = omega (arith, zeros-all (c .args .n) (c .pre) (c .fits .n .fits) .0)

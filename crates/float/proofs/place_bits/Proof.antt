@@ -1,6 +1,6 @@
 -- `float::place_bits` meets its contract. Assumes nothing.
 use borrow.Author.Needs.{needs}
-use mathlib.Core.Path.{_≡_, sym, ap, _∙_}
+use mathlib.Core.Path.{sym, ap, _∙_}
 use Prim.Native.Nat.{ℕ, _-_, _/_, _%_, _^_}
 use Rattle.float.proofs.Digits.{place-none, place-some}
 use Rattle.float.proofs.place_bits.Statement.{statement}

@@ -1,6 +1,6 @@
 -- `float::rem_bits` meets its contract. Assumes nothing.
 use borrow.Author.Needs.{needs}
-use mathlib.Core.Path.{_≡_, refl, sym, ap, _∙_, subst}
+use mathlib.Core.Path.{sym, ap, _∙_, subst}
 use Prim.Native.Nat.{ℕ, _+_, _-_, _*_, _/_, _%_, _^_, _<_, _≤_}
 use native.Mathlib.Nat.{mod-lt, lt-of-le-of-lt, lt-trans, div-le-self}
 use mathlib.Core.Bool.{false}
@@ -12,14 +12,6 @@ use Rattle.float.proofs.Clearing.{lead-lt}
 use Rattle.float.proofs.Digits.{divisor-lt, divisor-pos, place-lt, place-lt', rem-less, part-pos, split-at}
 use Rattle.float.proofs.rem_bits.Statement.{statement}
 use Rattle.float.proofs.rem_bits.Tie as tie
-use Rattle.float.proofs.rem_bits.Reads as reads
-use Rattle.float.proofs.rem_bits.Lts as lts
-use Rattle.float.proofs.join_sign.Reads as join-sign-reads
-use Rattle.float.proofs.lead_bits.Reads as lead-bits-reads
-use Rattle.float.proofs.low_zeros.Reads as low-zeros-reads
-use Rattle.float.proofs.place_bits.Reads as place-bits-reads
-use Rattle.float.proofs.shifted_rem.Reads as shifted-rem-reads
-use Rattle.float.proofs.units_bits.Reads as units-bits-reads
 
 -- what is known of the two patterns, once their digits and places are read
 module _ (c : tie.After-place-bits2) where

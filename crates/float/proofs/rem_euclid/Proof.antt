@@ -1,6 +1,6 @@
 -- `float::rem_euclid` meets its contract: each arm returns what `cond` picks. Assumes nothing.
 use borrow.Author.Needs.{needs}
-use mathlib.Core.Path.{_≡_, sym, ap, ap₂, _∙_}
+use mathlib.Core.Path.{sym, ap, ap₂, _∙_}
 use mathlib.Core.Bool.{Bool, cond}
 use lib.Ieee.{Float, binary64, rem, add, lt, ofBits}
 use Rattle.float.specs.Rounding.{absF, remEuclidF}

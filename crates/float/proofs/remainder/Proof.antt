@@ -7,15 +7,10 @@ use lib.Ieee.{Float, nan, binary64, fits, isNan, rem, div, ofBits, toBits}
 use Rattle.float.specs.Patterns.{lead, place}
 use Rattle.float.proofs.Patterns.{is-nan, is-number, no-nan, bits-lt, bits-back}
 use Rattle.float.proofs.Digits.{rem-by-nan, rem-of-inf, rem-by-zero, rem-by-inf, is-inf, is-zero, finite, rem-is, round-number}
-use Prim.Native.Nat.{ℕ, _+_, _-_, _*_, _/_, _%_, _^_, _<_, _≤_}
+use Prim.Native.Nat.{ℕ, _*_, _/_, _%_, _^_, _<_}
 use native.Mathlib.Omega.{arith}
 use Rattle.float.proofs.remainder.Statement.{statement}
 use Rattle.float.proofs.remainder.Tie as tie
-use Rattle.float.proofs.remainder.Reads as reads
-use Rattle.float.proofs.remainder.Lts as lts
-use Rattle.float.proofs.exponent.Reads as exponent-reads
-use Rattle.float.proofs.rem_bits.Reads as rem-bits-reads
-use Rattle.float.proofs.without_sign.Reads as without-sign-reads
 
 held-x : (c : tie.Start) → T (fits binary64 (c .args .x))
 held-x c = subst T (sym (c .good .0 .1)) tt

@@ -1,14 +1,12 @@
 -- `float::shifted_rem` meets its contract. The invariant: r is below n, and r * 2 ^ k has the remainder that is asked for. The measure is k. Assumes nothing.
-use mathlib.Core.Path.{_≡_, refl, sym, ap, _∙_, subst}
-use Prim.Native.Nat.{ℕ, _-_, _*_, _%_, _^_, _<_, _≤_}
+use mathlib.Core.Path.{_≡_, refl, sym, ap, _∙_}
+use Prim.Native.Nat.{ℕ, _-_, _*_, _%_, _^_, _<_}
 use native.Mathlib.Nat.{mod-lt, mod-eq-of-lt, mul-one, lt-of-le-of-lt}
 use native.Mathlib.Omega.{arith}
 use lib.Count.{leadingZeros}
 use Rattle.float.proofs.Digits.{leading-room, step, less-shift}
 use Rattle.float.proofs.shifted_rem.Statement.{statement}
 use Rattle.float.proofs.shifted_rem.Tie as tie
-use Rattle.float.proofs.shifted_rem.Reads as reads
-use Rattle.float.proofs.shifted_rem.Lts as lts
 
 abbrev Inv-loop : tie.InvT-loop
 Inv-loop q d n s r₀ k₀ r k = (q < n) × (n < 2 ^ 53) × (r < n) × (r * 2 ^ k % n ≡ q * 2 ^ d % n)

@@ -1,7 +1,6 @@
 -- `float::to_integer_or_infinity` meets its contract. Assumes nothing.
 use borrow.Author.Needs.{needs}
-use mathlib.Core.Path.{_≡_, sym, ap, _∙_, subst}
-use mathlib.Core.Bool.{Bool, true, false}
+use mathlib.Core.Path.{sym, ap, _∙_, subst}
 use lib.Dec.{T}
 use lib.Ieee.{Float, binary64, fits, eq, ofBits}
 use Rattle.float.specs.Rounding.{toIntegerOrInfinity}

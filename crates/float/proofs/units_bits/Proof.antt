@@ -1,16 +1,13 @@
 -- `float::units_bits` meets its contract. Assumes nothing.
 use borrow.Author.Needs.{needs}
-use mathlib.Core.Path.{_≡_, refl, sym, ap, _∙_, subst}
-use Prim.Native.Nat.{ℕ, _+_, _-_, _*_, _%_, _^_, _<_, _≤_}
+use mathlib.Core.Path.{_≡_, ap, _∙_}
+use Prim.Native.Nat.{_+_, _-_, _*_, _%_, _^_}
 use native.Mathlib.Omega.{arith}
 use lib.Dec.{lit<}
 use lib.Ieee.{binary64, ofBits}
 use Rattle.float.proofs.Digits.{shifted, unshifted, plain, none-at}
 use Rattle.float.proofs.units_bits.Statement.{statement}
 use Rattle.float.proofs.units_bits.Tie as tie
-use Rattle.float.proofs.units_bits.Reads as reads
-use Rattle.float.proofs.units_bits.Lts as lts
-use Rattle.float.proofs.room.Reads as room-reads
 
 returns : tie.Need-returns
 returns c = (lit< tt, none-at (c .before .args .q) (c .before .args .k) (c .if1 .taken) (c .before .pre .1))

@@ -1,0 +1,37 @@
+-- `answer::reply_of` meets its contract: each arm is the case of `replyOf` that it matched. Assumes nothing.
+use borrow.Author.Needs.{needs}
+use Rattle.answer.proofs.reply_of.Statement.{statement}
+use Rattle.answer.proofs.reply_of.Tie as tie
+
+enum-known-a : tie.Need-enum-known-a
+enum-known-a c = search needs
+
+enum-known-a-2 : tie.Need-enum-known-a-2
+enum-known-a-2 c = search needs
+
+enum-known-a-3 : tie.Need-enum-known-a-3
+enum-known-a-3 c = search needs
+
+refusal-number-requires : tie.Need-refusal-number-requires
+refusal-number-requires c κs = search needs
+
+returns : tie.Need-returns
+returns c = rw (c .before .a .given .1) (search needs)
+
+returns-2 : tie.Need-returns-2
+returns-2 c = rw (c .before .a2 .given .1) (search needs)
+
+returns-3 : tie.Need-returns-3
+returns-3 c = rw (c .before .before .a3 .given .1, c .refusal-number .ensures)
+
+pub reply-of-spec : {M : Type 1} → statement M
+reply-of-spec =
+    tie.close
+    (tie.spec
+    enum-known-a
+    enum-known-a-2
+    enum-known-a-3
+    refusal-number-requires
+    returns
+    returns-2
+    returns-3)

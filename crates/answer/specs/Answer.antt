@@ -1,0 +1,33 @@
+-- The number, the time value and the length of every answer, from the papers' table "Where a call is turned back". Definitions only.
+-- Assumes nothing.
+use Prim.Native.Nat.{ℕ}
+use Rattle.answer.specs.declared.Refusal.{Refusal}
+use Rattle.answer.specs.declared.Refusal.the-variants.{ZoneList, TimeValue, RecordLength, RecordMap, TextEnds, TextByte, TextField, TextRest, Instant, NoTime, Output}
+use Rattle.answer.specs.declared.Reply.{Reply}
+use Rattle.answer.specs.declared.Reply.the-variants.{Time, Text, Refused}
+use Rattle.answer.specs.declared.Answer.{Answer}
+
+-- the table's number of each fault
+abbrev pub refusalNumber : Refusal → ℕ
+refusalNumber ZoneList = 1
+refusalNumber TimeValue = 2
+refusalNumber RecordLength = 3
+refusalNumber RecordMap = 4
+refusalNumber TextEnds = 5
+refusalNumber TextByte = 6
+refusalNumber TextField = 7
+refusalNumber TextRest = 8
+refusalNumber Instant = 9
+refusalNumber NoTime = 10
+refusalNumber Output = 11
+
+-- "Every NaN handed out has bits 7FF8000000000000 (hexadecimal)."
+abbrev pub nanBits : ℕ
+nanBits = 0x7FF8_0000_0000_0000
+
+-- "Success is 0." "An answer is a number, a time value and a length." "The reader, builder and setters have length 0." A refused call has
+-- the fault's number, NaN and length 0.
+abbrev pub replyOf : Reply → Answer
+replyOf (Time v) = record { number = 0; value = v; length = 0 }
+replyOf (Text v n) = record { number = 0; value = v; length = n }
+replyOf (Refused f) = record { number = refusalNumber f; value = nanBits; length = 0 }

@@ -1,0 +1,4 @@
+pub mod Halves
+pub mod Masks
+pub mod Blocks
+pub mod Joined

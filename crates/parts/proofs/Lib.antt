@@ -1,0 +1,3 @@
+mod Bridge
+mod Years
+mod Together

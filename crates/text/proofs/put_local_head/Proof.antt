@@ -1,0 +1,58 @@
+-- `text::put_local_head` meets its contract: its five parts one behind the other. Assumes nothing.
+use mathlib.Core.List.{append-assoc}
+use mathlib.Core.Path.{refl}
+use borrow.Author.Needs.{needs}
+use Rattle.text.proofs.Runs.{puts-as, puts-then}
+use Rattle.text.proofs.put_local_head.Statement.{statement}
+use Rattle.text.proofs.put_local_head.Tie as tie
+
+day-name-requires : tie.Need-day-name-requires
+day-name-requires c κs = search needs
+
+put-name-requires : tie.Need-put-name-requires
+put-name-requires c κs = search needs
+
+put-requires : tie.Need-put-requires
+put-requires c κs = search needs
+
+month-name-requires : tie.Need-month-name-requires
+month-name-requires c κs = search needs
+
+put-name-requires-2 : tie.Need-put-name-requires-2
+put-name-requires-2 c κs = search needs
+
+put-two-requires : tie.Need-put-two-requires
+put-two-requires c κs = search needs
+
+put-requires-2 : tie.Need-put-requires-2
+put-requires-2 c κs = search needs
+
+same-length : tie.Need-same-length
+same-length c = search needs
+
+returns : tie.Need-returns
+returns c =
+    let r = c .before .before in
+    let t = r .before .before .before .before in
+    let m = t .before .before .before .before in
+    let p = m .before .before .before .before .before in
+    let d = p .before .before .before .before in
+    puts-as
+    (puts-then
+    (puts-then
+    (puts-then (puts-then (puts-as (d .put-name .ensures) (d .before .before .day-name .ensures)) (p .put .ensures) refl) (puts-as (m .put-name2 .ensures) (m .before .before .month-name .ensures)) refl)
+    (t .put-two .ensures) refl) (r .put2 .ensures) refl) (simp append-assoc)
+
+pub put-local-head-spec : {M : Type 1} → statement M
+put-local-head-spec =
+    tie.close
+    (tie.spec
+    day-name-requires
+    put-name-requires
+    put-requires
+    month-name-requires
+    put-name-requires-2
+    put-two-requires
+    put-requires-2
+    same-length
+    returns)

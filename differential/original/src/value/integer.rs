@@ -1,0 +1,2 @@
+// The text of value/integer.rs, unchanged.
+include!(concat!(env!("BOA_SRC_FOUND"), "/value/integer.rs"));
