@@ -1,0 +1,47 @@
+-- The map's ones, and the places of the fields: the ones below a bit and those from it on are all of them, so the field of a bit that stands
+-- lies within a record of the right length. Assumes nothing.
+use mathlib.Core.Path.{_≡_, refl, sym, ap, _∙_, subst}
+use mathlib.Core.Bool.{Bool, true, false}
+use mathlib.Core.List.{List}
+use Prim.Native.Nat.{ℕ, _+_, _-_, _*_, _/_, _%_, _^_, _≤_, _<_}
+use native.Mathlib.Nat.{mod-lt, div-add-mod', le-div-iff-mul-le, div-lt-iff-lt-mul, one-mul}
+use native.Mathlib.Omega.{arith}
+use borrow.Author.Tests.{eqb-true, eq-eqb, ne-eqb, le-leb, lt-leb}
+use lib.Count.{ones, ones-step, ones-cat, ones-le}
+use lib.Dec.{eqb, leb}
+use lib.Pow.{pow-pos}
+use lib.ListN.{length}
+use lib.Ieee.{Float}
+use Rattle.field_record.specs.FieldRecord.{mapOf, stands, hasLength, hasOtherBit, fieldAt, fieldOr}
+
+pub right-length : (bytes : List ℕ) → hasLength bytes ≡ true → length bytes ≡ 1 + 8 * ones (mapOf bytes)
+unfolding hasLength
+right-length bytes h = eqb-true (length bytes) (1 + 8 * ones (mapOf bytes)) h
+
+-- ---- the ones of a map
+pub ones-split : (map i : ℕ) → ones map ≡ ones (map / 2 ^ i) + ones (map % 2 ^ i)
+ones-split map i = ap ones (sym (div-add-mod' map (2 ^ i))) ∙ ones-cat i (map / 2 ^ i) (map % 2 ^ i) (mod-lt map (pow-pos i))
+
+-- one of them is the bit's own
+pub ones-own : (map i : ℕ) → map / 2 ^ i % 2 ≡ 1 → ones (map % 2 ^ i) + 1 ≤ ones map
+ones-own map i h = omega (arith, ones-split map i, ones-step (map / 2 ^ i))
+
+pub ones-byte : (map : ℕ) → map < 256 → ones map ≤ 8
+ones-byte map h = ones-le 8 map h
+
+-- ---- the map's bits above a call's
+pub no-other : (map n : ℕ) → map / 2 ^ n ≡ 0 → leb (2 ^ n) map ≡ false
+no-other map n h = lt-leb (2 ^ n) map (subst (λ (k : ℕ). map < k) (one-mul (2 ^ n)) (div-lt-iff-lt-mul (pow-pos n) .0 (omega arith)))
+
+pub some-other : (map n : ℕ) → (map / 2 ^ n ≡ 0 → ⊥) → leb (2 ^ n) map ≡ true
+some-other map n h = le-leb (2 ^ n) map (subst (λ (k : ℕ). k ≤ map) (one-mul (2 ^ n)) (le-div-iff-mul-le (pow-pos n) .0 (omega arith)))
+
+-- ---- a field
+module _ (bytes : List ℕ) (i : ℕ) (absent : Float) where
+  pub field-absent : mapOf bytes / 2 ^ i % 2 ≡ 0 → fieldOr bytes i absent ≡ absent
+  unfolding fieldOr
+  field-absent h = rw (ne-eqb (mapOf bytes / 2 ^ i % 2) 1 (λ e. omega arith))
+
+  pub field-given : mapOf bytes / 2 ^ i % 2 ≡ 1 → fieldOr bytes i absent ≡ fieldAt bytes i
+  unfolding fieldOr
+  field-given h = rw (eq-eqb (mapOf bytes / 2 ^ i % 2) 1 h)
