@@ -283,7 +283,8 @@ pub fn rem_euclid(x: f64, y: f64) -> f64
     ensures { λ r. ⌜ r ≡ remEuclidF x y ⌝ }
 {
     let r = remainder(x, y);
-    if r < 0.0 { r + abs(y) } else { r }
+    let n = abs(y);
+    if r < 0.0 { r + n } else { r }
 }
 
 // ---- integers
