@@ -1,0 +1,84 @@
+-- `time_clip` is TimeClip: of every whole time it is the f64 of what TimeClip gives, and of every f64 it is a time value, so NaN or a whole number in the
+-- range and never -0. Assumes nothing.
+use mathlib.Core.Path.{_≡_, refl, sym, ap, _∙_, subst}
+use mathlib.Core.Bool.{Bool, true, false, cond}
+use mathlib.Core.Option.{Option, some, none}
+use Prim.Native.Nat.{ℕ, zero, suc, _^_, _≤_, _<_}
+use native.Mathlib.Nat.{div-one, zero-lt-suc}
+use native.Mathlib.Omega.{arith}
+use lib.Dec.{T, leb, leb→le, nleb→lt, lit<, lit≤}
+use lib.IntN.{ℤ, pos, negsuc, natAbs}
+use lib.Signed.{_≤ℤ_, _<ℤ_}
+use lib.Ieee.{Float, nan, binary64, fits, lt, eq, ofInt}
+use lib.Ieee.Bits.{is-true}
+use lib.Ieee.Fits.{ofInt-fits}
+use lib.Ieee.Scale.{finite}
+use Rattle.ecma262.specs.Date.{timeRange, InRange, TimeClip}
+use Rattle.ecma262.proofs.Int.{plus, minus, ints, by-test}
+use Rattle.ecma262.proofs.Machine.{true-T}
+use Rattle.ecma262.proofs.Range.{clip-inside, clip-outside}
+use Rattle.float.specs.Whole.{IsWhole, truncZ}
+use Rattle.float.specs.Rounding.{truncF, absF}
+use Rattle.float.proofs.Whole.{ofInt-whole, round-is-whole, unique}
+use Rattle.float.proofs.Rounding.{trunc-value, trunc-whole, trunc-fits, abs-whole, whole-finite}
+use Rattle.float.proofs.Order.{lt-holds, lt-fails, eq-yes, eq-no, trunc-bounded}
+use Rattle.calendar.specs.Calendar.{num}
+use Rattle.calendar.proofs.Whole.{num-whole}
+use Rattle.make.specs.Make.{plainZero, timeClipF, timeValue, IsTimeValue, no-time, time}
+use Rattle.make.proofs.Tests.{clip-not-finite, clip-beyond, clip-within}
+
+-- ---- a whole number, but +0 for -0: the f64 of it
+abs-zero : (z : ℤ) → pos (natAbs z) ≡ pos 0 → z ≡ pos 0
+abs-zero (pos zero) e = refl
+abs-zero (pos (suc n)) e = absurd (omega (ints, e))
+abs-zero (negsuc n) e = absurd (omega (ints, e))
+
+plain-zero-whole : {x : Float} {z : ℤ} → T (fits binary64 x) → IsWhole x z → natAbs z ≤ 2 ^ 53 → plainZero x ≡ ofInt binary64 z
+plain-zero-whole {x} {z} h w b = go (eq (absF x) (num 0)) refl
+  where
+    o : IsWhole (num 0) (pos 0)
+    o = num-whole 0 (lit≤ tt)
+
+    go : (t : Bool) → eq (absF x) (num 0) ≡ t → plainZero x ≡ ofInt binary64 z
+    go true e = ap (λ c. cond c (num 0) x) e ∙ ap (ofInt binary64) (sym (abs-zero z (eq-yes (abs-whole w) o e)))
+    go false e =
+        ap (λ c. cond c (num 0) x) e
+        ∙ unique binary64 h (ofInt-fits binary64 z) w (ofInt-whole binary64 z b) (λ k. eq-no (abs-whole w) o e (ap (λ y. pos (natAbs y)) k))
+
+-- ---- "It tests first and truncates after": of a finite f64 that passes the test
+module _ (x : Float) (h : T (fits binary64 x)) (F : T (finite x)) (l : lt (num 8_640_000_000_000_000) (absF x) ≡ false) where
+  pub cut-in-range : InRange (truncZ x)
+  cut-in-range = trunc-bounded x (lit< tt) (num-whole 8640000000000000 (lit≤ tt)) F l
+
+  pub clip-cut : timeClipF x ≡ ofInt binary64 (truncZ x)
+  clip-cut = clip-within x (is-true (finite x) F) l ∙ plain-zero-whole (trunc-fits x) (trunc-whole x h F) (omega (arith, cut-in-range))
+
+-- THE LAW for every f64: "a time value is NaN or a whole number in the range", never -0
+pub clip-time-value : (x : Float) → T (fits binary64 x) → IsTimeValue (timeClipF x)
+clip-time-value x h = go (finite x) refl (lt (num 8640000000000000) (absF x)) refl
+  where
+    go : (f : Bool) → finite x ≡ f → (b : Bool) → lt (num 8640000000000000) (absF x) ≡ b → IsTimeValue (timeClipF x)
+    go false e b k = subst IsTimeValue (sym (clip-not-finite x e)) no-time
+    go true e true k = subst IsTimeValue (sym (clip-beyond x e k)) no-time
+    go true e false k = let F = true-T (finite x) e in subst IsTimeValue (sym (clip-cut x h F k)) (time (truncZ x) (cut-in-range x h F k))
+
+-- THE LAW for every whole time
+trunc-small : {x : Float} {z : ℤ} → IsWhole x z → natAbs z ≤ 2 ^ 53 → IsWhole (truncF x) z
+trunc-small {x} {z} w b =
+    subst (λ (v : Float). IsWhole v z) (sym (trunc-value x (w .sign) (w .size) 1 (zero-lt-suc 0) (w .value) ∙ ap (λ (n : ℕ). lib.Ieee.round binary64 (w .sign) n 1) (div-one (w .size))))
+    (round-is-whole binary64 (w .sign) (w .size) z (w .is) b)
+
+module _ {t : Float} {z : ℤ} (w : IsWhole t z) where
+  pub clip-inside-whole : InRange z → timeClipF t ≡ ofInt binary64 z
+  clip-inside-whole r =
+      clip-within t (is-true (finite t) (whole-finite w)) (lt-fails (num-whole 8640000000000000 (lit≤ tt)) (abs-whole w) (omega (ints, r)))
+      ∙ plain-zero-whole (trunc-fits t) (trunc-small w (omega (arith, r))) (omega (arith, r))
+
+  pub clip-outside-whole : timeRange < natAbs z → timeClipF t ≡ nan
+  clip-outside-whole r =
+      clip-beyond t (is-true (finite t) (whole-finite w)) (lt-holds (num-whole 8640000000000000 (lit≤ tt)) (abs-whole w) (omega (ints, r)))
+
+  pub clip-exact : timeClipF t ≡ timeValue (TimeClip z)
+  clip-exact = by-test (leb (natAbs z) timeRange)
+      (λ y. let r : InRange z = leb→le (natAbs z) timeRange y in clip-inside-whole r ∙ ap timeValue (sym (clip-inside z r)))
+      (λ n. let r : timeRange < natAbs z = nleb→lt (natAbs z) timeRange n in clip-outside-whole r ∙ ap timeValue (sym (clip-outside z r)))

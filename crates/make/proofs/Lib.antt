@@ -1,0 +1,5 @@
+pub mod Tests
+pub mod Parts
+pub mod Exact
+pub mod Clip
+mod Examples
