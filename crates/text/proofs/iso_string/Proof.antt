@@ -16,10 +16,10 @@ year-length : (b : tie.After-iso-year-length) → length (isoYear (b .before .be
 year-length b = at-fitting (λ y. length (isoYear y) ≡ b .iso-year-length .result) (year-fits _ (b .before .before .before .pre .year-ok)) (b .iso-year-length .ensures .0)
 
 iso-year-length-requires : tie.Need-iso-year-length-requires
-iso-year-length-requires c κs = search needs
+iso-year-length-requires c κs = omega arith
 
 add-length : tie.Need-add-length
-add-length c = search needs
+add-length c = omega arith
 
 returns : tie.Need-returns
 returns c =
@@ -31,16 +31,16 @@ put-iso-year-requires : tie.Need-put-iso-year-requires
 put-iso-year-requires c κs = search needs
 
 put-iso-date-requires : tie.Need-put-iso-date-requires
-put-iso-date-requires c κs = search needs
+put-iso-date-requires c κs = omega arith
 
 add-put-iso-time : tie.Need-add-put-iso-time
-add-put-iso-time c = search needs
+add-put-iso-time c = omega arith
 
 put-iso-time-requires : tie.Need-put-iso-time-requires
-put-iso-time-requires c κs = search needs
+put-iso-time-requires c κs = omega arith
 
 same-length : tie.Need-same-length
-same-length c = search needs
+same-length c = omega arith
 
 returns-2 : tie.Need-returns-2
 returns-2 c =

@@ -12,7 +12,7 @@ returns : tie.Need-returns
 returns c = (ap length (sym (iso-below (c .before .args .year) (below-zero (c .before .fits .year) (c .if1 .taken)))), search needs)
 
 unsigned-abs-requires : tie.Need-unsigned-abs-requires
-unsigned-abs-requires c κs = search needs
+unsigned-abs-requires c κs = omega arith
 
 returns-2 : tie.Need-returns-2
 returns-2 c =

@@ -17,10 +17,10 @@ year-length : (b : tie.After-signed-length) → length (signedYear (b .before .b
 year-length b = at-fitting (λ y. length (signedYear y) ≡ b .signed-length .result) (year-fits _ (b .before .before .before .pre .0 .year-ok)) (b .signed-length .ensures .0)
 
 signed-length-requires : tie.Need-signed-length-requires
-signed-length-requires c κs = search needs
+signed-length-requires c κs = omega arith
 
 add-length : tie.Need-add-length
-add-length c = search needs
+add-length c = omega arith
 
 returns : tie.Need-returns
 returns c =
@@ -29,31 +29,31 @@ returns c =
     prints-none (length-local (wholeOf (s .args .f)) (s .args .offset) (s .pre .0 .weekday-ok) (s .pre .0 .month-ok) ∙ ap (λ n. n + 29) (year-length b)) (c .if1 .taken) refl
 
 put-local-head-requires : tie.Need-put-local-head-requires
-put-local-head-requires c κs = search needs
+put-local-head-requires c κs = omega arith
 
 put-signed-year-requires : tie.Need-put-signed-year-requires
 put-signed-year-requires c κs = search needs
 
 add-put : tie.Need-add-put
-add-put c = search needs
+add-put c = omega arith
 
 put-requires : tie.Need-put-requires
-put-requires c κs = search needs
+put-requires c κs = omega arith
 
 add-time-string : tie.Need-add-time-string
-add-time-string c = search needs
+add-time-string c = omega arith
 
 time-string-requires : tie.Need-time-string-requires
-time-string-requires c κs = search needs
+time-string-requires c κs = omega arith
 
 add-time-zone-string : tie.Need-add-time-zone-string
-add-time-zone-string c = search needs
+add-time-zone-string c = omega arith
 
 time-zone-string-requires : tie.Need-time-zone-string-requires
 time-zone-string-requires c κs = search needs
 
 same-length : tie.Need-same-length
-same-length c = search needs
+same-length c = omega arith
 
 returns-2 : tie.Need-returns-2
 returns-2 c =

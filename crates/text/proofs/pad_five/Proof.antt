@@ -1,5 +1,6 @@
 -- `text::pad_five` meets its contract: the digits of the quotient by 10000 and of the remainder. Assumes nothing.
 use mathlib.Core.Path.{refl}
+use native.Mathlib.Omega.{arith}
 use borrow.Author.Needs.{needs}
 use Rattle.text.proofs.Runs.{put-digit, puts-digits}
 use Rattle.text.proofs.pad_five.Statement.{statement}
@@ -9,19 +10,19 @@ cast-put : tie.Need-cast-put
 cast-put c = search needs
 
 add-put : tie.Need-add-put
-add-put c = search needs
+add-put c = omega arith
 
 put-requires : tie.Need-put-requires
-put-requires c κs = search needs
+put-requires c κs = omega arith
 
 add-pad-four : tie.Need-add-pad-four
-add-pad-four c = search needs
+add-pad-four c = omega arith
 
 pad-four-requires : tie.Need-pad-four-requires
-pad-four-requires c κs = search needs
+pad-four-requires c κs = omega arith
 
 same-length : tie.Need-same-length
-same-length c = search needs
+same-length c = omega arith
 
 returns : tie.Need-returns
 returns c =

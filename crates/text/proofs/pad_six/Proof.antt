@@ -1,5 +1,6 @@
 -- `text::pad_six` meets its contract: the digits of the quotient by 10000 and of the remainder. Assumes nothing.
 use mathlib.Core.Path.{refl}
+use native.Mathlib.Omega.{arith}
 use borrow.Author.Needs.{needs}
 use Rattle.text.proofs.Runs.{puts-digits}
 use Rattle.text.proofs.pad_six.Statement.{statement}
@@ -9,16 +10,16 @@ cast-pad-two : tie.Need-cast-pad-two
 cast-pad-two c = search needs
 
 pad-two-requires : tie.Need-pad-two-requires
-pad-two-requires c κs = search needs
+pad-two-requires c κs = omega arith
 
 add-pad-four : tie.Need-add-pad-four
-add-pad-four c = search needs
+add-pad-four c = omega arith
 
 pad-four-requires : tie.Need-pad-four-requires
-pad-four-requires c κs = search needs
+pad-four-requires c κs = omega arith
 
 same-length : tie.Need-same-length
-same-length c = search needs
+same-length c = omega arith
 
 returns : tie.Need-returns
 returns c =

@@ -1,5 +1,6 @@
 -- `text::pad_three` meets its contract: the digits of the quotient by 100 and of the remainder. Assumes nothing.
 use mathlib.Core.Path.{refl}
+use native.Mathlib.Omega.{arith}
 use borrow.Author.Needs.{needs}
 use Rattle.text.proofs.Runs.{put-digit, puts-digits}
 use Rattle.text.proofs.pad_three.Statement.{statement}
@@ -9,22 +10,22 @@ cast-put : tie.Need-cast-put
 cast-put c = search needs
 
 add-put : tie.Need-add-put
-add-put c = search needs
+add-put c = omega arith
 
 put-requires : tie.Need-put-requires
-put-requires c κs = search needs
+put-requires c κs = omega arith
 
 cast-pad-two : tie.Need-cast-pad-two
 cast-pad-two c = search needs
 
 add-pad-two : tie.Need-add-pad-two
-add-pad-two c = search needs
+add-pad-two c = omega arith
 
 pad-two-requires : tie.Need-pad-two-requires
-pad-two-requires c κs = search needs
+pad-two-requires c κs = omega arith
 
 same-length : tie.Need-same-length
-same-length c = search needs
+same-length c = omega arith
 
 returns : tie.Need-returns
 returns c =

@@ -1,7 +1,6 @@
 -- `text::put_iso_year` meets its contract: the three cases of the ISO year. Assumes nothing.
 use mathlib.Core.Path.{refl}
 use native.Mathlib.Omega.{arith}
-use borrow.Author.Needs.{needs}
 use Rattle.ecma262.proofs.Texts.{iso-below, iso-four, iso-above}
 use Rattle.text.proofs.Runs.{puts-own, puts-then}
 use Rattle.text.proofs.Sign.{below-zero, from-zero, abs-of}
@@ -9,10 +8,10 @@ use Rattle.text.proofs.put_iso_year.Statement.{statement}
 use Rattle.text.proofs.put_iso_year.Tie as tie
 
 unsigned-abs-requires : tie.Need-unsigned-abs-requires
-unsigned-abs-requires c κs = search needs
+unsigned-abs-requires c κs = omega arith
 
 put-requires : tie.Need-put-requires
-put-requires c κs = search needs
+put-requires c κs = omega arith
 
 pad-six-requires : tie.Need-pad-six-requires
 pad-six-requires c κs =
@@ -20,10 +19,10 @@ pad-six-requires c κs =
     omega (arith, abs-of (u .before .before .fits .year) (u .unsigned-abs .ensures), u .before .before .pre)
 
 pad-four-requires : tie.Need-pad-four-requires
-pad-four-requires c κs = search needs
+pad-four-requires c κs = omega arith
 
 put-requires-2 : tie.Need-put-requires-2
-put-requires-2 c κs = search needs
+put-requires-2 c κs = omega arith
 
 pad-six-requires-2 : tie.Need-pad-six-requires-2
 pad-six-requires-2 c κs =
@@ -31,7 +30,7 @@ pad-six-requires-2 c κs =
     omega (arith, abs-of (u .before .before .fits .year) (u .unsigned-abs .ensures), u .before .before .pre)
 
 same-length : tie.Need-same-length
-same-length c = search needs
+same-length c = omega arith
 
 returns : tie.Need-returns
 returns c =
@@ -44,7 +43,7 @@ returns c =
     (rw (abs-of (s .fits .year) (u .unsigned-abs .ensures)) (iso-below (s .args .year) (below-zero (s .fits .year) (d .if1 .taken))))
 
 same-length-2 : tie.Need-same-length-2
-same-length-2 c = search needs
+same-length-2 c = omega arith
 
 returns-2 : tie.Need-returns-2
 returns-2 c =
@@ -57,7 +56,7 @@ returns-2 c =
     (rw (abs-of (s .fits .year) (u .unsigned-abs .ensures)) (iso-four (s .args .year) (from-zero (s .fits .year) (e .if1 .left)) (omega (arith, abs-of (s .fits .year) (u .unsigned-abs .ensures)))))
 
 same-length-3 : tie.Need-same-length-3
-same-length-3 c = search needs
+same-length-3 c = omega arith
 
 returns-3 : tie.Need-returns-3
 returns-3 c =

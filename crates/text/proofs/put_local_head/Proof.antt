@@ -1,34 +1,34 @@
 -- `text::put_local_head` meets its contract: its five parts one behind the other. Assumes nothing.
 use mathlib.Core.List.{append-assoc}
 use mathlib.Core.Path.{refl}
-use borrow.Author.Needs.{needs}
+use native.Mathlib.Omega.{arith}
 use Rattle.text.proofs.Runs.{puts-as, puts-then}
 use Rattle.text.proofs.put_local_head.Statement.{statement}
 use Rattle.text.proofs.put_local_head.Tie as tie
 
 day-name-requires : tie.Need-day-name-requires
-day-name-requires c κs = search needs
+day-name-requires c κs = omega arith
 
 put-name-requires : tie.Need-put-name-requires
-put-name-requires c κs = search needs
+put-name-requires c κs = omega arith
 
 put-requires : tie.Need-put-requires
-put-requires c κs = search needs
+put-requires c κs = omega arith
 
 month-name-requires : tie.Need-month-name-requires
-month-name-requires c κs = search needs
+month-name-requires c κs = omega arith
 
 put-name-requires-2 : tie.Need-put-name-requires-2
-put-name-requires-2 c κs = search needs
+put-name-requires-2 c κs = omega arith
 
 put-two-requires : tie.Need-put-two-requires
-put-two-requires c κs = search needs
+put-two-requires c κs = omega arith
 
 put-requires-2 : tie.Need-put-requires-2
-put-requires-2 c κs = search needs
+put-requires-2 c κs = omega arith
 
 same-length : tie.Need-same-length
-same-length c = search needs
+same-length c = omega arith
 
 returns : tie.Need-returns
 returns c =

@@ -1,5 +1,6 @@
 -- `text::put_name` meets its contract: three stores in a row. Assumes nothing.
 use mathlib.Core.Path.{refl, sym}
+use native.Mathlib.Omega.{arith}
 use borrow.Author.Needs.{needs}
 use Rattle.text.proofs.Runs.{puts-as, puts-then, three}
 use Rattle.text.proofs.put_name.Statement.{statement}
@@ -9,28 +10,28 @@ array-read-put : tie.Need-array-read-put
 array-read-put c = search needs
 
 put-requires : tie.Need-put-requires
-put-requires c κs = search needs
+put-requires c κs = omega arith
 
 array-read-put-2 : tie.Need-array-read-put-2
 array-read-put-2 c = search needs
 
 add-put : tie.Need-add-put
-add-put c = search needs
+add-put c = omega arith
 
 put-requires-2 : tie.Need-put-requires-2
-put-requires-2 c κs = search needs
+put-requires-2 c κs = omega arith
 
 array-read-put-3 : tie.Need-array-read-put-3
 array-read-put-3 c = search needs
 
 add-put-2 : tie.Need-add-put-2
-add-put-2 c = search needs
+add-put-2 c = omega arith
 
 put-requires-3 : tie.Need-put-requires-3
-put-requires-3 c κs = search needs
+put-requires-3 c κs = omega arith
 
 same-length : tie.Need-same-length
-same-length c = search needs
+same-length c = omega arith
 
 returns : tie.Need-returns
 returns c =

@@ -4,7 +4,6 @@ use mathlib.Core.Path.{_≡_, ap}
 use Prim.Native.Nat.{_+_}
 use native.Mathlib.Omega.{arith}
 use lib.ListN.{length}
-use borrow.Author.Needs.{needs}
 use Rattle.ecma262.specs.Texts.{paddedYear, yearSign}
 use Rattle.text.proofs.Runs.{puts-own, puts-then}
 use Rattle.text.proofs.Sign.{abs-of, at-fitting, puts-fitting}
@@ -12,10 +11,10 @@ use Rattle.text.proofs.put_signed_year.Statement.{statement}
 use Rattle.text.proofs.put_signed_year.Tie as tie
 
 put-year-sign-requires : tie.Need-put-year-sign-requires
-put-year-sign-requires c κs = search needs
+put-year-sign-requires c κs = omega arith
 
 unsigned-abs-requires : tie.Need-unsigned-abs-requires
-unsigned-abs-requires c κs = search needs
+unsigned-abs-requires c κs = omega arith
 
 put-padded-year-requires : tie.Need-put-padded-year-requires
 put-padded-year-requires c κs =
@@ -25,7 +24,7 @@ put-padded-year-requires c κs =
     omega (arith, abs-of (s .fits .year) (u .unsigned-abs .ensures), p .put-year-sign .ensures .1, s .pre)
 
 same-length : tie.Need-same-length
-same-length c = search needs
+same-length c = omega arith
 
 returns : tie.Need-returns
 returns c =

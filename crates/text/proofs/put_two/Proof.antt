@@ -1,21 +1,21 @@
 -- `text::put_two` meets its contract: the separator, and behind it two digits. Assumes nothing.
 use mathlib.Core.Path.{refl}
-use borrow.Author.Needs.{needs}
+use native.Mathlib.Omega.{arith}
 use Rattle.text.proofs.Runs.{puts-then}
 use Rattle.text.proofs.put_two.Statement.{statement}
 use Rattle.text.proofs.put_two.Tie as tie
 
 put-requires : tie.Need-put-requires
-put-requires c κs = search needs
+put-requires c κs = omega arith
 
 add-pad-two : tie.Need-add-pad-two
-add-pad-two c = search needs
+add-pad-two c = omega arith
 
 pad-two-requires : tie.Need-pad-two-requires
-pad-two-requires c κs = search needs
+pad-two-requires c κs = omega arith
 
 same-length : tie.Need-same-length
-same-length c = search needs
+same-length c = omega arith
 
 returns : tie.Need-returns
 returns c =

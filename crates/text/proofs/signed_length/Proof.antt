@@ -3,7 +3,6 @@ use mathlib.Core.Path.{_≡_, sym, ap, _∙_}
 use native.Mathlib.Omega.{arith}
 use lib.IntN.{natAbs}
 use lib.ListN.{length}
-use borrow.Author.Needs.{needs}
 use Rattle.ecma262.proofs.Texts.{length-below, length-from}
 use Rattle.ecma262.specs.Texts.{paddedYear}
 use Rattle.text.proofs.Sign.{below-zero, from-zero, abs-of}
@@ -14,13 +13,13 @@ padded-of : (b : tie.After-padded-length) → length (paddedYear (natAbs (b .bef
 padded-of b = ap (λ n. length (paddedYear n)) (sym (abs-of (b .before .before .fits .year) (b .before .unsigned-abs .ensures))) ∙ b .padded-length .ensures .0
 
 unsigned-abs-requires : tie.Need-unsigned-abs-requires
-unsigned-abs-requires c κs = search needs
+unsigned-abs-requires c κs = omega arith
 
 padded-length-requires : tie.Need-padded-length-requires
-padded-length-requires c κs = search needs
+padded-length-requires c κs = omega arith
 
 add-result : tie.Need-add-result
-add-result c = search needs
+add-result c = omega arith
 
 returns : tie.Need-returns
 returns c =

@@ -1,21 +1,21 @@
 -- `text::time_string` meets its contract: the clock, and behind it ` GMT`. Assumes nothing.
 use mathlib.Core.Path.{refl}
-use borrow.Author.Needs.{needs}
+use native.Mathlib.Omega.{arith}
 use Rattle.text.proofs.Runs.{puts-then}
 use Rattle.text.proofs.time_string.Statement.{statement}
 use Rattle.text.proofs.time_string.Tie as tie
 
 put-clock-requires : tie.Need-put-clock-requires
-put-clock-requires c κs = search needs
+put-clock-requires c κs = omega arith
 
 add-put-gmt : tie.Need-add-put-gmt
-add-put-gmt c = search needs
+add-put-gmt c = omega arith
 
 put-gmt-requires : tie.Need-put-gmt-requires
-put-gmt-requires c κs = search needs
+put-gmt-requires c κs = omega arith
 
 same-length : tie.Need-same-length
-same-length c = search needs
+same-length c = omega arith
 
 returns : tie.Need-returns
 returns c =

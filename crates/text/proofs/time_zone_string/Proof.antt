@@ -11,13 +11,13 @@ use Rattle.text.proofs.time_zone_string.Statement.{statement}
 use Rattle.text.proofs.time_zone_string.Tie as tie
 
 unsigned-abs-requires : tie.Need-unsigned-abs-requires
-unsigned-abs-requires c κs = search needs
+unsigned-abs-requires c κs = omega arith
 
 offset-sign-requires : tie.Need-offset-sign-requires
-offset-sign-requires c κs = search needs
+offset-sign-requires c κs = omega arith
 
 put-requires : tie.Need-put-requires
-put-requires c κs = search needs
+put-requires c κs = omega arith
 
 cast-pad-two : tie.Need-cast-pad-two
 cast-pad-two c =
@@ -26,7 +26,7 @@ cast-pad-two c =
     omega (arith, abs-of (s .fits .offset) (u .unsigned-abs .ensures), s .pre)
 
 add-pad-two : tie.Need-add-pad-two
-add-pad-two c = search needs
+add-pad-two c = omega arith
 
 pad-two-requires : tie.Need-pad-two-requires
 pad-two-requires c κs =
@@ -38,13 +38,13 @@ cast-pad-two-2 : tie.Need-cast-pad-two-2
 cast-pad-two-2 c = search needs
 
 add-pad-two-2 : tie.Need-add-pad-two-2
-add-pad-two-2 c = search needs
+add-pad-two-2 c = omega arith
 
 pad-two-requires-2 : tie.Need-pad-two-requires-2
-pad-two-requires-2 c κs = search needs
+pad-two-requires-2 c κs = omega arith
 
 same-length : tie.Need-same-length
-same-length c = search needs
+same-length c = omega arith
 
 returns : tie.Need-returns
 returns c =

@@ -1,5 +1,4 @@
 -- `text::unsigned_abs` meets its contract: -1 - x fits for every negative x, where 0 - x does not at the least i32. Assumes nothing.
-use native.Mathlib.Omega.{arith}
 use lib.IntN.{pos}
 use lib.Signed.{_<ℤ_, yes-nonNeg}
 use mir.Facts.{toZ-ofZ}

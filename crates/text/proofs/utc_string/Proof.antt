@@ -17,10 +17,10 @@ year-length : (b : tie.After-signed-length) → length (signedYear (b .before .b
 year-length b = at-fitting (λ y. length (signedYear y) ≡ b .signed-length .result) (year-fits _ (b .before .before .before .pre .year-ok)) (b .signed-length .ensures .0)
 
 signed-length-requires : tie.Need-signed-length-requires
-signed-length-requires c κs = search needs
+signed-length-requires c κs = omega arith
 
 add-length : tie.Need-add-length
-add-length c = search needs
+add-length c = omega arith
 
 returns : tie.Need-returns
 returns c =
@@ -29,25 +29,25 @@ returns c =
     prints-none (length-utc (wholeOf (s .args .f)) (s .pre .weekday-ok) (s .pre .month-ok) ∙ ap (λ n. n + 25) (year-length b)) (c .if1 .taken) refl
 
 put-utc-head-requires : tie.Need-put-utc-head-requires
-put-utc-head-requires c κs = search needs
+put-utc-head-requires c κs = omega arith
 
 put-signed-year-requires : tie.Need-put-signed-year-requires
 put-signed-year-requires c κs = search needs
 
 add-put : tie.Need-add-put
-add-put c = search needs
+add-put c = omega arith
 
 put-requires : tie.Need-put-requires
-put-requires c κs = search needs
+put-requires c κs = omega arith
 
 add-time-string : tie.Need-add-time-string
-add-time-string c = search needs
+add-time-string c = omega arith
 
 time-string-requires : tie.Need-time-string-requires
-time-string-requires c κs = search needs
+time-string-requires c κs = omega arith
 
 same-length : tie.Need-same-length
-same-length c = search needs
+same-length c = omega arith
 
 returns-2 : tie.Need-returns-2
 returns-2 c =
