@@ -3,13 +3,16 @@ use answer::Refusal;
 use answer::Reply;
 use text::DateFields;
 use text::Printed;
+use timevalue::TimeValue;
 ghost use mathlib.Core.Path.{_≡_};
 ghost use lib.Ieee.{binary64, toBits};
-ghost use Rattle.ecma262.specs.Texts.{isoText, utcText, localText};
+ghost use Rattle.ecma262.specs.Texts.{isoText, utcText, invalidDate};
 ghost use Rattle.float.specs.Whole.{truncZ};
+ghost use Rattle.answer.specs.Answer.{nanBits};
 ghost use Rattle.parts.specs.Parts.{Takes};
 ghost use Rattle.writer.specs.Fields.{FieldsAt, replied};
 ghost use Rattle.writer.specs.Outcome.{written, Leaves};
+ghost use Rattle.writer.specs.Writer.{isoOutcome, utcOutcome};
 
 // The fields of a whole time, all at once, for the printing functions.
 fn date_fields(t: f64) -> DateFields
@@ -57,4 +60,34 @@ pub fn write_utc(t: f64, output: &mut [u8]) -> Reply
 {
     let printed = text::utc_string(date_fields(t), output);
     reply(float::bits_of(t), printed)
+}
+
+// The text of NaN.
+fn write_invalid(output: &mut [u8]) -> Reply
+    ensures { λ r. ⌜ Leaves (written nanBits invalidDate (now (output .entry))) r (now (output .exit)) ⌝ }
+{
+    let printed = text::invalid_date(output);
+    reply(0x7FF8_0000_0000_0000, printed)
+}
+
+// Date.prototype.toISOString
+pub fn to_iso_string(time: u64, output: &mut [u8]) -> Reply
+    ensures { λ r. ⌜ Leaves (isoOutcome time (now (output .entry))) r (now (output .exit)) ⌝ }
+{
+    match timevalue::time_value(time) {
+        TimeValue::Refused => Reply::Refused(Refusal::TimeValue),
+        TimeValue::Nan => Reply::Refused(Refusal::NoTime),
+        TimeValue::Time(t) => write_iso(t, output),
+    }
+}
+
+// Date.prototype.toUTCString
+pub fn to_utc_string(time: u64, output: &mut [u8]) -> Reply
+    ensures { λ r. ⌜ Leaves (utcOutcome time (now (output .entry))) r (now (output .exit)) ⌝ }
+{
+    match timevalue::time_value(time) {
+        TimeValue::Refused => Reply::Refused(Refusal::TimeValue),
+        TimeValue::Nan => write_invalid(output),
+        TimeValue::Time(t) => write_utc(t, output),
+    }
 }

@@ -1,0 +1,31 @@
+-- The outcome of each writer, for any bits of a time value, any bytes of a zone list and any output: document 01's table "Where a call is
+-- turned back", row by row. The texts are ECMA-262's of the whole number (crates/ecma262/specs/Texts.antt). Definitions only. Assumes nothing.
+use mathlib.Core.List.{List}
+use Prim.Native.Nat.{ℕ}
+use lib.Ieee.{binary64, toBits}
+use Rattle.ecma262.specs.Texts.{isoText, utcText, invalidDate}
+use Rattle.float.specs.Whole.{truncZ}
+use Rattle.timevalue.specs.declared.TimeValue.{TimeValue as Given}
+use Rattle.timevalue.specs.declared.TimeValue.the-variants.{Time, Nan, Refused as NoTimeValue}
+use Rattle.timevalue.specs.TimeValue.{timeValueOf}
+use Rattle.answer.specs.Answer.{nanBits}
+use Rattle.answer.specs.declared.Refusal.the-variants.{TimeValue, NoTime}
+use Rattle.writer.specs.Outcome.{Outcome, refused, written}
+
+-- ISO: rows 2, 10 ("`to_iso_string` refuses a non-finite date") and 11. A success returns "the time it was given (-0 as 0)".
+abbrev pub isoCase : Given → List ℕ → Outcome
+isoCase NoTimeValue out = refused TimeValue out
+isoCase Nan out = refused NoTime out
+isoCase (Time t) out = written (toBits binary64 t) (isoText (truncZ t)) out
+
+unfoldable pub isoOutcome : ℕ → List ℕ → Outcome
+isoOutcome time out = isoCase (timeValueOf time) out
+
+-- UTC: rows 2 and 11; "the UTC and local writers answer `Invalid Date` for NaN"
+abbrev pub utcCase : Given → List ℕ → Outcome
+utcCase NoTimeValue out = refused TimeValue out
+utcCase Nan out = written nanBits invalidDate out
+utcCase (Time t) out = written (toBits binary64 t) (utcText (truncZ t)) out
+
+unfoldable pub utcOutcome : ℕ → List ℕ → Outcome
+utcOutcome time out = utcCase (timeValueOf time) out
