@@ -1,0 +1,4 @@
+pub mod Tests
+pub mod Whole
+pub mod Seconds
+mod Examples

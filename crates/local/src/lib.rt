@@ -1,0 +1,43 @@
+// Local time of builtins/date/utils.rs under a zone list, function by function under its names. Each contract is the original's operations
+// in its order (specs/Local.antt), for every f64; what they are on whole times is in proofs/Whole.antt.
+ghost use mathlib.Core.Path.{_≡_};
+ghost use Rattle.zone.specs.Zone.{records, Accepted};
+ghost use Rattle.local.specs.Local.{askedSecondF, offsetSecondsF, localTimeF, utcF};
+
+const MS_PER_SECOND: f64 = 1_000.0;
+
+// The second to look up; beyond 64 bits the nearest end.
+fn asked_second(t: f64) -> i64
+    ensures { λ r. ⌜ r ≡ askedSecondF t ⌝ }
+{
+    let millis = float::rem_euclid(t, MS_PER_SECOND);
+    float::as_i64((t - millis) / MS_PER_SECOND)
+}
+
+// The offset at t, read as an instant.
+pub fn local_timezone_offset_seconds(t: f64, zone: &[u8]) -> i32
+    requires { ⌜ Accepted (now zone) ⌝ }
+    ensures { λ r. ⌜ r ≡ offsetSecondsF (records (now (zone .entry))) t ⌝ }
+{
+    zone::lookup(zone, asked_second(t))
+}
+
+// LocalTime(t)
+pub fn local_time(t: f64, zone: &[u8]) -> f64
+    requires { ⌜ Accepted (now zone) ⌝ }
+    ensures { λ r. ⌜ r ≡ localTimeF (records (now (zone .entry))) t ⌝ }
+{
+    t + local_timezone_offset_seconds(t, zone) as f64 * MS_PER_SECOND
+}
+
+// UTC(t)
+pub fn utc_t(t: f64, zone: &[u8]) -> f64
+    requires { ⌜ Accepted (now zone) ⌝ }
+    ensures { λ r. ⌜ r ≡ utcF (records (now (zone .entry))) t ⌝ }
+{
+    // 1. If t is not finite, return NaN.
+    if !float::is_finite(t) {
+        return 0.0 / 0.0;
+    }
+    t - local_timezone_offset_seconds(t, zone) as f64 * MS_PER_SECOND
+}
