@@ -12,7 +12,9 @@ ghost use Rattle.answer.specs.Answer.{nanBits};
 ghost use Rattle.parts.specs.Parts.{Takes};
 ghost use Rattle.writer.specs.Fields.{FieldsAt, replied};
 ghost use Rattle.writer.specs.Outcome.{written, Leaves};
-ghost use Rattle.writer.specs.Writer.{isoOutcome, utcOutcome};
+ghost use Rattle.timevalue.specs.TimeValue.{IsTime};
+ghost use Rattle.zone.specs.Zone.{records, Accepted};
+ghost use Rattle.writer.specs.Writer.{isoOutcome, utcOutcome, toDateString, localOutcome};
 
 // The fields of a whole time, all at once, for the printing functions.
 fn date_fields(t: f64) -> DateFields
@@ -62,6 +64,17 @@ pub fn write_utc(t: f64, output: &mut [u8]) -> Reply
     reply(float::bits_of(t), printed)
 }
 
+// The text of a time of the range under an accepted list. As in the original's `to_date_string_t` the suffix is looked up at the local time.
+pub fn write_local(zone: &[u8], t: f64, output: &mut [u8]) -> Reply
+    requires { ⌜ IsTime t × Accepted (now zone) ⌝ }
+    ensures { λ r. ⌜ Leaves (written (toBits binary64 t) (toDateString (records (now (zone .entry))) (truncZ t)) (now (output .entry))) r (now (output .exit)) ⌝ }
+{
+    let shifted = local::local_time(t, zone);
+    let offset = local::local_timezone_offset_seconds(shifted, zone);
+    let printed = text::local_string(date_fields(shifted), offset, output);
+    reply(float::bits_of(t), printed)
+}
+
 // The text of NaN.
 fn write_invalid(output: &mut [u8]) -> Reply
     ensures { λ r. ⌜ Leaves (written nanBits invalidDate (now (output .entry))) r (now (output .exit)) ⌝ }
@@ -89,5 +102,19 @@ pub fn to_utc_string(time: u64, output: &mut [u8]) -> Reply
         TimeValue::Refused => Reply::Refused(Refusal::TimeValue),
         TimeValue::Nan => write_invalid(output),
         TimeValue::Time(t) => write_utc(t, output),
+    }
+}
+
+// Date.prototype.toString, by ToDateString
+pub fn to_string(zone: &[u8], time: u64, output: &mut [u8]) -> Reply
+    ensures { λ r. ⌜ Leaves (localOutcome (now (zone .entry)) time (now (output .entry))) r (now (output .exit)) ⌝ }
+{
+    if !zone::accept(zone) {
+        return Reply::Refused(Refusal::ZoneList);
+    }
+    match timevalue::time_value(time) {
+        TimeValue::Refused => Reply::Refused(Refusal::TimeValue),
+        TimeValue::Nan => write_invalid(output),
+        TimeValue::Time(t) => write_local(zone, t, output),
     }
 }
