@@ -1,0 +1,4 @@
+pub mod Whole
+pub mod Written
+pub mod Given
+pub mod Local

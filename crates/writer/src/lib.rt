@@ -1,0 +1,120 @@
+// The three writers: a time value's text into a lent output, or why not.
+use answer::Refusal;
+use answer::Reply;
+use text::DateFields;
+use text::Printed;
+use timevalue::TimeValue;
+ghost use mathlib.Core.Path.{_≡_};
+ghost use lib.Ieee.{binary64, toBits};
+ghost use Rattle.ecma262.specs.Texts.{isoText, utcText, invalidDate};
+ghost use Rattle.float.specs.Whole.{truncZ};
+ghost use Rattle.answer.specs.Answer.{nanBits};
+ghost use Rattle.parts.specs.Parts.{Takes};
+ghost use Rattle.writer.specs.Fields.{FieldsAt, replied};
+ghost use Rattle.writer.specs.Outcome.{written, Leaves};
+ghost use Rattle.timevalue.specs.TimeValue.{IsTime};
+ghost use Rattle.zone.specs.Zone.{records, Accepted};
+ghost use Rattle.writer.specs.Writer.{isoOutcome, utcOutcome, toDateString, localOutcome};
+
+// The fields of a whole time, all at once, for the printing functions.
+fn date_fields(t: f64) -> DateFields
+    requires { ⌜ Takes t ⌝ }
+    ensures { λ r. ⌜ FieldsAt (truncZ t) r ⌝ }
+{
+    let p = parts::parts_of(t);
+    DateFields {
+        year: p.year,
+        month: p.month as u8,
+        date: p.date as u8,
+        hour: p.hour as u8,
+        minute: p.minute as u8,
+        second: p.second as u8,
+        weekday: p.weekday as u8,
+        ms: p.ms as u16,
+    }
+}
+
+// What a printing function answered, as the reply for a time value.
+fn reply(value: u64, printed: Printed) -> Reply
+    ensures { λ r. ⌜ r ≡ replied value printed ⌝ }
+{
+    match printed {
+        Printed::Length(length) => Reply::Text {
+            value: value,
+            length: length,
+        },
+        Printed::NoRoom => Reply::Refused(Refusal::Output),
+    }
+}
+
+// The texts of a whole time.
+pub fn write_iso(t: f64, output: &mut [u8]) -> Reply
+    requires { ⌜ Takes t ⌝ }
+    ensures { λ r. ⌜ Leaves (written (toBits binary64 t) (isoText (truncZ t)) (now (output .entry))) r (now (output .exit)) ⌝ }
+{
+    let printed = text::iso_string(date_fields(t), output);
+    reply(float::bits_of(t), printed)
+}
+
+pub fn write_utc(t: f64, output: &mut [u8]) -> Reply
+    requires { ⌜ Takes t ⌝ }
+    ensures { λ r. ⌜ Leaves (written (toBits binary64 t) (utcText (truncZ t)) (now (output .entry))) r (now (output .exit)) ⌝ }
+{
+    let printed = text::utc_string(date_fields(t), output);
+    reply(float::bits_of(t), printed)
+}
+
+// The text of a time of the range under an accepted list. As in the original's `to_date_string_t` the suffix is looked up at the local time.
+pub fn write_local(zone: &[u8], t: f64, output: &mut [u8]) -> Reply
+    requires { ⌜ IsTime t × Accepted (now zone) ⌝ }
+    ensures { λ r. ⌜ Leaves (written (toBits binary64 t) (toDateString (records (now (zone .entry))) (truncZ t)) (now (output .entry))) r (now (output .exit)) ⌝ }
+{
+    let shifted = local::local_time(t, zone);
+    let offset = local::local_timezone_offset_seconds(shifted, zone);
+    let printed = text::local_string(date_fields(shifted), offset, output);
+    reply(float::bits_of(t), printed)
+}
+
+// The text of NaN.
+fn write_invalid(output: &mut [u8]) -> Reply
+    ensures { λ r. ⌜ Leaves (written nanBits invalidDate (now (output .entry))) r (now (output .exit)) ⌝ }
+{
+    let printed = text::invalid_date(output);
+    reply(0x7FF8_0000_0000_0000, printed)
+}
+
+// Date.prototype.toISOString
+pub fn to_iso_string(time: u64, output: &mut [u8]) -> Reply
+    ensures { λ r. ⌜ Leaves (isoOutcome time (now (output .entry))) r (now (output .exit)) ⌝ }
+{
+    match timevalue::time_value(time) {
+        TimeValue::Refused => Reply::Refused(Refusal::TimeValue),
+        TimeValue::Nan => Reply::Refused(Refusal::NoTime),
+        TimeValue::Time(t) => write_iso(t, output),
+    }
+}
+
+// Date.prototype.toUTCString
+pub fn to_utc_string(time: u64, output: &mut [u8]) -> Reply
+    ensures { λ r. ⌜ Leaves (utcOutcome time (now (output .entry))) r (now (output .exit)) ⌝ }
+{
+    match timevalue::time_value(time) {
+        TimeValue::Refused => Reply::Refused(Refusal::TimeValue),
+        TimeValue::Nan => write_invalid(output),
+        TimeValue::Time(t) => write_utc(t, output),
+    }
+}
+
+// Date.prototype.toString, by ToDateString
+pub fn to_string(zone: &[u8], time: u64, output: &mut [u8]) -> Reply
+    ensures { λ r. ⌜ Leaves (localOutcome (now (zone .entry)) time (now (output .entry))) r (now (output .exit)) ⌝ }
+{
+    if !zone::accept(zone) {
+        return Reply::Refused(Refusal::ZoneList);
+    }
+    match timevalue::time_value(time) {
+        TimeValue::Refused => Reply::Refused(Refusal::TimeValue),
+        TimeValue::Nan => write_invalid(output),
+        TimeValue::Time(t) => write_local(zone, t, output),
+    }
+}

@@ -1,0 +1,12 @@
+-- A reply by its numbers is the call's answer. Assumes nothing.
+use mathlib.Core.Path.{_≡_, ap, _∙_}
+use mathlib.Core.List.{List}
+use Prim.Native.Nat.{ℕ}
+use Rattle.answer.specs.Answer.{replyOf}
+use Rattle.answer.specs.declared.Answer.{Answer}
+use Rattle.answer.specs.declared.Reply.{Reply}
+use Rattle.writer.specs.Outcome.{Outcome, Leaves}
+use Rattle.zovattha.specs.Call.{Answers}
+
+pub answers : {o : Outcome} {reply : Reply} {r : Answer} {last : List ℕ} → Leaves o reply last → r ≡ replyOf reply → Answers o r last
+answers h e = record { answer-is = e ∙ ap replyOf (h .reply-is); output-is = h .output-is }

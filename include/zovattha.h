@@ -1,0 +1,74 @@
+/*
+ * Zovattha: the date module of boa_engine 0.22.0 carried over and proved, as C functions on numbers and lent bytes.
+ * Link libzovattha.a; it needs nothing else, allocates nothing, keeps no state and never fails to return.
+ *
+ * What every function takes and gives
+ *
+ *   time value   the 64 bits of an f64: milliseconds since 1970-01-01 UTC, a whole number within 8,640,000,000,000,000
+ *                of zero, or NaN by any of its patterns. -0 counts as 0. A NaN handed out is ZOVATTHA_NAN.
+ *   zone list    12 bytes a record: a second (signed, 64 bits), then the offset from UTC in seconds that holds from then on
+ *                (signed, 32 bits), low byte first. 1 to 1,024 records, seconds strictly rising, offsets within ±86,399.
+ *   out          where a text is written: its first bytes, as many as the answer's length. Bytes past them stay as they were.
+ *
+ * What the caller keeps
+ *
+ *   - A pointer lent with a length is good for that many bytes for the whole call. It may be null where the length is 0.
+ *   - `out` overlaps neither `zone` nor `text` nor `record`: to write a text again in place, copy it first.
+ *   - Nothing else: any bits and any bytes get an answer.
+ *
+ * A refused call answers the number of its fault, ZOVATTHA_NAN and length 0, and leaves every lent byte as it was.
+ * Where several faults are there, the first one in the order of the numbers below decides, but for a text, which is read
+ * from left to right: there the first fault met does (5, 6 and 7), then 8, then 7 for hour 24.
+ */
+#ifndef ZOVATTHA_H
+#define ZOVATTHA_H
+
+#include <stddef.h>
+#include <stdint.h>
+
+#ifdef __cplusplus
+extern "C" {
+#endif
+
+typedef struct zovattha_answer {
+    uint32_t number; /* ZOVATTHA_DONE, or why the call was turned back */
+    uint64_t value;  /* the bits of a time value */
+    size_t length;   /* how many bytes were written */
+} zovattha_answer;
+
+#define ZOVATTHA_NAN UINT64_C(0x7FF8000000000000)
+
+enum zovattha_number {
+    ZOVATTHA_DONE = 0,
+    ZOVATTHA_ZONE_LIST = 1,     /* zone list: length, order or offset outside its rule */
+    ZOVATTHA_TIME_VALUE = 2,    /* time value: infinite, fractional or beyond the range */
+    ZOVATTHA_RECORD_LENGTH = 3, /* field record: empty, or not 1 + 8 times the ones of its map */
+    ZOVATTHA_RECORD_MAP = 4,    /* field record: a bit that this call hasn't got */
+    ZOVATTHA_TEXT_ENDS = 5,     /* text: it ends where a byte is needed */
+    ZOVATTHA_TEXT_BYTE = 6,     /* text: a byte not allowed there */
+    ZOVATTHA_TEXT_FIELD = 7,    /* text: a field outside its bounds, -000000, or hour 24 with a smaller field not 0 */
+    ZOVATTHA_TEXT_REST = 8,     /* text: a byte other than T after a day, or any byte after Z or an offset's minute */
+    ZOVATTHA_INSTANT = 9,       /* the instant of a text is outside the range */
+    ZOVATTHA_NO_TIME = 10,      /* ISO writer: NaN */
+    ZOVATTHA_OUTPUT = 11        /* out is shorter than the text */
+};
+
+/*
+ * Writers. Each answers the time value that it was given (-0 as 0) and the length of the text. NaN is the text
+ * `Invalid Date` for the UTC and the local writer. 36 bytes are enough for every text.
+ */
+
+/* 2024-02-29T12:00:00.000Z; years outside 0 to 9999 as -000001 or +010000. 24 or 27 bytes. Refusals 2, 10, 11. */
+zovattha_answer zovattha_to_iso_string(uint64_t time, uint8_t *out, size_t out_len);
+
+/* Thu, 29 Feb 2024 12:00:00 GMT. 29 to 32 bytes, or 12. Refusals 2, 11. */
+zovattha_answer zovattha_to_utc_string(uint64_t time, uint8_t *out, size_t out_len);
+
+/* Thu Feb 29 2024 14:00:00 GMT+0200. 33 to 36 bytes, or 12. Refusals 1, 2, 11. */
+zovattha_answer zovattha_to_string(const uint8_t *zone, size_t zone_len, uint64_t time, uint8_t *out, size_t out_len);
+
+#ifdef __cplusplus
+}
+#endif
+
+#endif
