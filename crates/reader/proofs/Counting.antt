@@ -81,10 +81,11 @@ pub local-counted : (list : List Record) (u a : ℕ) (o : ℤ) → 1_000_000_000
     → o ≡ offsetAt list (askedSecond (pos u -ℤ pos 37_930_477_996_800_000)) → natAbs o ≤ 86_399 → pos a ≡ o +ℤ pos 86_400
     → (pos (u + 86_400_000 - 1_000 * a) ≡ utcTime list (pos u -ℤ pos 37_930_477_996_800_000) +ℤ pos 37_930_477_996_800_000) × (u + 86_400_000 - 1_000 * a < 200_000_000_000_000_000)
 unfolding utcTime offsetOfLocal offsetOfInstant
-local-counted list u a o h l e b f =
-    (omega (ints, abs-in o b, e, f, read (at o +ᵗ at (pos 86400)), read ((at (pos u) -ᵗ at (pos 37930477996800000)) -ᵗ at o ᵗ* 1000 +ᵗ at (pos 37930477996800000)))
-    ∙ ap (λ (x : ℤ). pos u -ℤ pos 37930477996800000 -ℤ x *ℤ pos 1000 +ℤ pos 37930477996800000) e,
-    omega (ints, abs-in o b, f, read (at o +ᵗ at (pos 86400))))
+local-counted list u a o h l e b f = (
+  omega (ints, abs-in o b, e, f, read (at o +ᵗ at (pos 86400)), read ((at (pos u) -ᵗ at (pos 37930477996800000)) -ᵗ at o ᵗ* 1000 +ᵗ at (pos 37930477996800000)))
+      ∙ ap (λ (x : ℤ). pos u -ℤ pos 37930477996800000 -ℤ x *ℤ pos 1000 +ℤ pos 37930477996800000) e,
+  omega (ints, abs-in o b, f, read (at o +ᵗ at (pos 86400))),
+)
 
 -- ---- the time of the fields and the instant
 pub date-instant : (list : List Record) (y : Year) (d : Date) (n : ℕ)

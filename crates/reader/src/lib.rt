@@ -16,7 +16,6 @@ ghost use Rattle.local.specs.Local.{askedSecond, utcTime};
 ghost use Rattle.parser.specs.Answer.{asYear, asDate, asTime, asZone, asForm};
 ghost use Rattle.reader.specs.Denotes.{lessOffset, instantOf};
 ghost use Rattle.reader.specs.Outcome.{refusalOf, answerAt, readOutcome};
-
 use answer::Refusal;
 use answer::Reply;
 use parser::Date;
@@ -117,11 +116,7 @@ fn less_offset(u: u64, negative: bool, hour: u32, minute: u32) -> u64
     ensures { λ r. ⌜ (pos r ≡ lessOffset [] (offset negative hour minute) (pos u)) × (r < 200_000_000_000_000_000) ⌝ }
 {
     let ms = clock(hour, minute, 0, 0) as u64;
-    if negative {
-        u + ms
-    } else {
-        u - ms
-    }
+    if negative { u + ms } else { u - ms }
 }
 
 // The second of a time, as counted here: the second at which a local time is looked up.

@@ -32,7 +32,7 @@ cast-result-2 : tie.Need-cast-result-2
 cast-result-2 c = subst (λ (z : ℤ). T (nonNeg z) × Fits w64 (natAbs z)) (sym (moved (c .args .offset) (c .fits .offset) (c .pre) .value ∙ counted (c .args .offset) (c .pre))) (tt, record { fits = omega (arith, small (c .args .offset) (c .pre)) })
 
 returns : tie.Need-returns
-returns c = 
+returns c =
     let v = moved (c .args .offset) (c .fits .offset) (c .pre) .value in
     let n = counted (c .args .offset) (c .pre) in
     (ap (λ (z : ℤ). pos (natAbs z)) (v ∙ n) ∙ sym n, subst (λ (z : ℤ). natAbs z < 200000) (sym (v ∙ n)) (small (c .args .offset) (c .pre)))

@@ -46,7 +46,7 @@ sub-t : tie.Need-sub-t
 sub-t c = let u = c .before .before .args .u in subst (λ (z : ℤ). SFits w64 (z -ℤ pos 37930477996800000)) (sym (natural u (c .before .before .pre))) (fits u (c .before .before .pre))
 
 int-to-float-bits-of : tie.Need-int-to-float-bits-of
-int-to-float-bits-of c = 
+int-to-float-bits-of c =
     let a = c .before .before .before in
     subst (λ (z : ℤ). T (inFloat binary64 z)) (sym (value (a .args .u) (a .pre))) (in-float _ (inside (a .args .u) (c .before .before .if1 .left) (c .before .if2 .left)))
 
@@ -54,7 +54,7 @@ bits-of-requires : tie.Need-bits-of-requires
 bits-of-requires c κs = search needs
 
 returns-3 : tie.Need-returns-3
-returns-3 c = 
+returns-3 c =
     let a = c .before .before .before .before in
     ap Time (c .bits-of .ensures ∙ ap (λ (z : ℤ). toBits binary64 (ofInt binary64 z)) (value (a .args .u) (a .pre)))
     ∙ answer-inside _ (inside (a .args .u) (c .before .before .before .if1 .left) (c .before .before .if2 .left))

@@ -49,7 +49,7 @@ add-result-2 : tie.Need-add-result-2
 add-result-2 c = record { fits = omega (arith, counted (c .before .before) (c .days-of .result) (c .days-of .ensures .1), c .before .before .before .first-day .ensures, c .before .days-before .ensures) }
 
 returns : tie.Need-returns
-returns c = 
+returns c =
     let w = counted (c .before .before) (c .days-of .result) (c .days-of .ensures .1) in
     let month = c .before .before .before .before .month-of in
     let day : (c .before .before .before .first-day .result + c .before .days-before .result + c .days-of .result) ≡ _ = λ i. c .before .before .before .first-day .ensures i + c .before .days-before .ensures i + c .days-of .result in

@@ -53,7 +53,7 @@ less-zone-requires : tie.Need-less-zone-requires
 less-zone-requires c κs = (c .before .before .before .before .before .before .pre .0, (omega (arith, c .before .day-count2 .ensures), omega (arith, c .before .day-count2 .ensures, c .clock-count .ensures)), bounds (c .before .before) .3)
 
 returns : tie.Need-returns
-returns c = 
+returns c =
     let a = c .before .before .before .before .before in
     let f = c .before .before .form .given in
     rw (f .1) (date-instant (records (a .args .zone .now)) (asYear (f .0 .0)) (asDate (f .0 .1 .0)) (c .day-count .result) (c .day-count .ensures .0), omega (arith, c .day-count .ensures))

@@ -36,7 +36,7 @@ sub-result : tie.Need-sub-result
 sub-result c = search needs
 
 returns : tie.Need-returns
-returns c = 
+returns c =
     let l = c .before in
     let a = l .before .before .before in
     local-counted (records (a .args .zone .now)) (a .args .u) (c .above-a-day .result) (l .lookup .result) (a .pre .1 .0) (a .pre .1 .1)

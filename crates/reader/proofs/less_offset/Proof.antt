@@ -21,13 +21,13 @@ sub-result : tie.Need-sub-result
 sub-result c = search needs
 
 returns : tie.Need-returns
-returns c = 
+returns c =
     let a = c .before .before .args in
     let n = c .before .clock .ensures in
     rw (c .if1 .taken) (omega (ints, n, read (at (pos (a .u)) +ᵗ at (pos (3600000 * a .hour + 60000 * a .minute)))), omega (arith, n))
 
 returns-2 : tie.Need-returns-2
-returns-2 c = 
+returns-2 c =
     let a = c .before .before .args in
     let n = c .before .clock .ensures in
     rw (c .if1 .left) (omega (ints, n, read (at (pos (a .u)) -ᵗ at (pos (3600000 * a .hour + 60000 * a .minute)))), omega (arith, n))

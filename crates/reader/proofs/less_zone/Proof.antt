@@ -28,7 +28,7 @@ enum-known-z : tie.Need-enum-known-z
 enum-known-z c = search needs
 
 less-offset-requires : tie.Need-less-offset-requires
-less-offset-requires c κs = 
+less-offset-requires c κs =
     let p = c .before .before .before .before .pre in
     let b : c .before .z .given .0 .1 .0 ≤ 23 = rw (c .before .z .given .1) at (p .2) in
     (p .1 .0, p .1 .1, b, lit≤ tt)
@@ -37,7 +37,7 @@ enum-known-z-2 : tie.Need-enum-known-z-2
 enum-known-z-2 c = search needs
 
 less-offset-requires-2 : tie.Need-less-offset-requires-2
-less-offset-requires-2 c κs = 
+less-offset-requires-2 c κs =
     let p = c .before .before .before .before .pre in
     let b : (c .before .z2 .given .0 .1 .0 ≤ 23) × (c .before .z2 .given .0 .1 .1 .0 ≤ 59) = rw (c .before .z2 .given .1) at (p .2) in
     (p .1 .0, p .1 .1, b .0, b .1)
@@ -46,18 +46,18 @@ returns : tie.Need-returns
 returns c = rw (c .before .enum-told .given .1) (c .less-local .ensures)
 
 returns-2 : tie.Need-returns-2
-returns-2 c = 
+returns-2 c =
     let a = c .before .before .before in
     rw (c .enum-told2 .given .1) (counted (a .args .u), omega (arith, a .pre .1 .1))
 
 returns-3 : tie.Need-returns-3
-returns-3 c = 
+returns-3 c =
     let a = c .before .before .before .before .before in
     let z = c .before .before .z .given in
     rw (z .1) (offset-counted (records (a .args .zone .now)) (z .0 .0) (z .0 .1 .0) 0 (a .args .u) (c .less-offset .result) _ (counted (a .args .u)) (c .less-offset .ensures .0), c .less-offset .ensures .1)
 
 returns-4 : tie.Need-returns-4
-returns-4 c = 
+returns-4 c =
     let a = c .before .before .before .before .before in
     let z = c .before .before .z2 .given in
     rw (z .1) (offset-counted (records (a .args .zone .now)) (z .0 .0) (z .0 .1 .0) (z .0 .1 .1 .0) (a .args .u) (c .less-offset2 .result) _ (counted (a .args .u)) (c .less-offset2 .ensures .0), c .less-offset2 .ensures .1)

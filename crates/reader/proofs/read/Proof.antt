@@ -40,9 +40,10 @@ enum-known-form c = search needs
 
 instant-of-requires : tie.Need-instant-of-requires
 instant-of-requires c κs =
-    let p = c .before .before .before in
-    (accepts-sound _ (accepted (p .before)),
-    read-printed (p .before .before .before .before .before .args .text .now) (asForm (c .before .form .given .0 .0)) (sym (p .parse .ensures) ∙ ap asReading (c .before .form .given .1)) .bounds)
+    let p = c .before .before .before in (
+      accepts-sound _ (accepted (p .before)),
+      read-printed (p .before .before .before .before .before .args .text .now) (asForm (c .before .form .given .0 .0)) (sym (p .parse .ensures) ∙ ap asReading (c .before .form .given .1)) .bounds,
+    )
 
 answer-at-requires : tie.Need-answer-at-requires
 answer-at-requires c κs = search needs
