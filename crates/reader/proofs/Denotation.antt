@@ -19,17 +19,17 @@ use Rattle.float.specs.Whole.{IsWhole}
 use Rattle.float.proofs.Whole.{ofInt-whole}
 use Rattle.float.proofs.Rounding.{number-unique}
 use Rattle.zone.specs.Zone.{Accepted, accepts, records}
-use Rattle.zone.proofs.Rule.{accepts-complete}
+use Rattle.zone.proofs.Rule.{accepts-sound, accepts-complete}
 use Rattle.parser.specs.Reading.{Reading, form, refused, read}
 use Rattle.parser.specs.declared.Fault.{Fault}
 use Rattle.parser.specs.declared.Fault.the-variants.{Short, Bad, Range, Trailing}
 use Rattle.parser.proofs.Accepts.{read-printed, printed-read, form-unique}
-use Rattle.answer.specs.declared.Refusal.the-variants.{Instant}
+use Rattle.answer.specs.declared.Refusal.the-variants.{ZoneList, Instant}
 use Rattle.answer.specs.declared.Reply.{Reply}
 use Rattle.answer.specs.declared.Reply.the-variants.{Time, Refused}
-use Rattle.reader.specs.Denotes.{instantOf, Denotes}
+use Rattle.reader.specs.Denotes.{instantOf, Denotes, AcceptedText}
 use Rattle.reader.specs.Outcome.{refusalOf, timeBits, answerAt, answerOf, readOutcome}
-use Rattle.reader.proofs.Answers.{text-refused, text-read}
+use Rattle.reader.proofs.Answers.{list-refused, text-refused, text-read}
 use Rattle.reader.proofs.Counting.{answer-inside, answer-beyond}
 
 -- ---- a time of the range is told by its bits
@@ -106,3 +106,19 @@ module _ (zone text : List ℕ) (a : Accepted zone) where
               (λ c. let other : Time (timeBits u) ≡ Refused Instant = answer-inside u (leb→le (natAbs u) timeRange c) ∙ sym (answered u d) ∙ e in
               let z : _≡_ {A = ℕ} 0 1 = cc in absurd (omega arith))
               (λ c. (u, d, nleb→lt (natAbs u) timeRange c))
+
+-- a text is accepted under a list exactly when "none of the reader's refusals applies to the two"
+pub accepted-exactly : (zone text : List ℕ) → AcceptedText zone text ↔ ((v : ℕ) × (readOutcome zone text ≡ Time v))
+accepted-exactly zone text = (λ a. (timeBits (a .t), reads-instant zone text (a .list) (a .t) (a .inside) .1 (a .denotes)), λ w. by-list (w .0) (accepts zone) refl (w .1))
+  where
+    in-range : (a : Accepted zone) (v : ℕ) → readOutcome zone text ≡ Time v → Read zone text a → AcceptedText zone text
+    in-range a v e (fault f g) = absurd (no-time zone text a f v (sym g ∙ e))
+    in-range a v e (instant t d) =
+        by-test (leb (natAbs t) timeRange)
+        (λ c. record { list = a; t = t; denotes = d; inside = leb→le (natAbs t) timeRange c })
+        (λ c. let other : Refused Instant ≡ Time v = answer-beyond t (nleb→lt (natAbs t) timeRange c) ∙ sym (answered zone text a t d) ∙ e in
+        let z : _≡_ {A = ℕ} 0 1 = cc in absurd (omega arith))
+
+    by-list : (v : ℕ) (b : Bool) → accepts zone ≡ b → readOutcome zone text ≡ Time v → AcceptedText zone text
+    by-list v true p e = in-range (accepts-sound zone p) v e (reading zone text (accepts-sound zone p))
+    by-list v false p e = let other : Refused ZoneList ≡ Time v = list-refused zone text p ∙ e in let z : _≡_ {A = ℕ} 0 1 = cc in absurd (omega arith)

@@ -1,0 +1,3 @@
+mod Forms
+mod Runs
+pub mod Demand3
