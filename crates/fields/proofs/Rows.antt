@@ -9,17 +9,17 @@ use native.Mathlib.Omega.{arith}
 use lib.Dec.{lit≤}
 use lib.IntN.{ℤ}
 use lib.Ieee.{Float, nan}
+use Rattle.ecma262.specs.Date.{InRange}
 use Rattle.ecma262.specs.Domain.{Shown}
 use Rattle.float.specs.Whole.{IsWhole, truncZ}
 use Rattle.float.proofs.Rounding.{truncZ-whole}
-use Rattle.zone.specs.Zone.{Accepted, accepts, records}
+use Rattle.zone.specs.Zone.{Record, IsZoneList, Accepted, accepts, records}
 use Rattle.zone.proofs.Rule.{accepts-sound}
 use Rattle.timevalue.specs.declared.TimeValue.{TimeValue}
 use Rattle.timevalue.specs.declared.TimeValue.the-variants as given
 use Rattle.timevalue.specs.TimeValue.{IsTime, timeValueOf}
 use Rattle.timevalue.proofs.Laws.{Taken, Judged, is-time, is-nan, is-refused, judge}
 use Rattle.field_record.specs.FieldRecord.{hasLength, hasOtherBit}
-use Rattle.local.specs.Local.{localTimeF, localTime}
 use Rattle.local.proofs.Whole.{local-time-whole, local-time-shown}
 use Rattle.parts.specs.Parts.{Takes}
 use Rattle.answer.specs.declared.Refusal.{Refusal}
@@ -28,6 +28,7 @@ use Rattle.answer.specs.declared.Reply.{Reply}
 use Rattle.answer.specs.declared.Reply.the-variants as reply
 use Rattle.fields.specs.Calls.{Call, build, bitsOf, shiftIn, valueFrom, valueOfNan, valueOf}
 use Rattle.fields.specs.Outcome.{isRefused, timeReply, buildOutcome, setOutcome}
+use Rattle.fields.specs.Standard.{shiftInZ}
 use Rattle.fields.specs.Steps.{startOf, started, Ready}
 use Rattle.fields.specs.declared.Start.{Start}
 use Rattle.fields.specs.declared.Start.the-variants.{From, Nan, Refused}
@@ -117,15 +118,18 @@ set-by-start call local zone time fields = go (local && not (accepts zone)) (has
     go false true false given.Nan = refl
 
 -- ---- past the rows
-whole-start : (local : Bool) (zone : List ℕ) (x t : Float) → (local ≡ true → Accepted zone) → Taken x t → Takes (shiftIn local (records zone) t)
-whole-start false zone x t l k = record { whole = k .time .whole; shown = le-trans (k .time .range) (lit≤ tt) }
-whole-start true zone x t l k =
-    let list = records zone in
-    let rule = l refl .rule in
-    let z = truncZ t in
-    let w : IsWhole (localTimeF list t) (localTime list z) = local-time-whole list rule z (le-trans (k .time .range) (lit≤ tt)) (k .time .whole) in
-    let e : localTime list z ≡ truncZ (localTimeF list t) = sym (truncZ-whole w) in
-    record { whole = subst (IsWhole (localTimeF list t)) e w; shown = subst Shown e (local-time-shown list rule z (k .time .range)) }
+
+-- the start is the whole number that it is in ℤ
+pub start-whole : (local : Bool) (list : List Record) {t : Float} {z : ℤ} → (local ≡ true → IsZoneList list) → IsWhole t z → InRange z
+    → IsWhole (shiftIn local list t) (shiftInZ local list z) × Shown (shiftInZ local list z)
+start-whole false list l w r = (w, le-trans r (lit≤ tt))
+start-whole true list {t} {z} l w r = (local-time-whole list (l refl) z (le-trans r (lit≤ tt)) w, local-time-shown list (l refl) z r)
+
+start-takes : (local : Bool) (zone : List ℕ) (x t : Float) → (local ≡ true → Accepted zone) → Taken x t → Takes (shiftIn local (records zone) t)
+start-takes local zone x t l k =
+    let s = start-whole local (records zone) (λ e. l e .rule) (k .time .whole) (k .time .range) in
+    let e : shiftInZ local (records zone) (truncZ t) ≡ truncZ (shiftIn local (records zone) t) = sym (truncZ-whole (s .0)) in
+    record { whole = subst (IsWhole (shiftIn local (records zone) t)) e (s .0); shown = subst Shown e (s .1) }
 
 -- what holds of a start that is no refusal
 pub record Passed (local : Bool) (zone : List ℕ) (time : ℕ) (fields : List ℕ) (s : Start) : Type 0 where
@@ -176,6 +180,6 @@ module _ (bits : ℕ) (local : Bool) (zone : List ℕ) (time : ℕ) (fields : Li
       go (is-time u q k) =
           let same : From t ≡ From (shiftIn local (records zone) u) = p .same ∙ ap (startOf local zone) q in
           let at : shiftIn local (records zone) u ≡ t = cc in
-          record { time = subst Takes at (whole-start local zone _ u (p .list) k); filled = p .filled; list = p .list }
+          record { time = subst Takes at (start-takes local zone _ u (p .list) k); filled = p .filled; list = p .list }
       go (is-nan q k) = let same : From t ≡ Nan = p .same ∙ ap (startOf local zone) q in let z : _≡_ {A = ℕ} 0 1 = cc in absurd (omega arith)
       go (is-refused q j k) = let same : From t ≡ Refused fault.TimeValue = p .same ∙ ap (startOf local zone) q in let z : _≡_ {A = ℕ} 0 1 = cc in absurd (omega arith)

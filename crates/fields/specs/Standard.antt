@@ -2,7 +2,7 @@
 -- times are those of crates/local: t goes in as t + 1,000·off(⌊t/1000⌋), and u comes out as u - 1,000·off(⌊u/1000⌋). Definitions only.
 -- Assumes nothing.
 use mathlib.Core.Path.{_≡_}
-use mathlib.Core.Bool.{Bool, true, cond}
+use mathlib.Core.Bool.{Bool, true, false, cond}
 use mathlib.Core.List.{List, [], _∷_}
 use mathlib.Core.Option.{Option}
 use Prim.Native.Nat.{ℕ, _<_}
@@ -12,10 +12,10 @@ use lib.ListN.{getD}
 use lib.Ieee.Scale.{finite}
 use Rattle.ecma262.specs.Date.{Day, TimeWithinDay, YearFromTime, MonthFromTime, DateFromTime, HourFromTime, MinFromTime, SecFromTime, msFromTime, MakeTime, MakeDay, MakeDate, MakeFullYear, TimeClip}
 use Rattle.ecma262.specs.Domain.{ExactDay, ExactTime}
-use Rattle.zone.specs.Zone.{Record}
+use Rattle.zone.specs.Zone.{Record, Accepted}
 use Rattle.local.specs.Local.{localTime, utcTime}
 use Rattle.float.specs.Whole.{truncZ}
-use Rattle.field_record.specs.FieldRecord.{stands, fieldAt}
+use Rattle.field_record.specs.FieldRecord.{stands, hasLength, hasOtherBit, fieldAt}
 use Rattle.fields.specs.Calls.{Call, build, setMilliseconds, setSeconds, setMinutes, setHours, setDate, setMonth, setFullYear, bitsOf}
 
 -- What an absent field stands for. Bit 0 has no such number: it stands for NaN, and the law below asks for it to be given.
@@ -74,3 +74,9 @@ Bounded setFullYear t a = ExactDay (a 0) (a 1) (a 2)
 pub record Exact (call : Call) (t : ℤ) (fields : List ℕ) : Type 0 where
   pub numbers : Finite call fields
   pub bounds : Bounded call t (argumentZ call t fields)
+
+-- none of the rows 1, 3 and 4 applies
+pub record Passes (call : Call) (local : Bool) (zone fields : List ℕ) : Type 0 where
+  pub list : local ≡ true → Accepted zone
+  pub filled : hasLength fields ≡ true
+  pub known : hasOtherBit (bitsOf call) fields ≡ false
