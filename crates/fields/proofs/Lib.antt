@@ -1,0 +1,5 @@
+pub mod Rows
+pub mod Setters
+pub mod Exact
+pub mod Values
+pub mod Outcomes

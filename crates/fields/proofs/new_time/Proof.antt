@@ -1,0 +1,93 @@
+-- `fields::new_time` meets its contract. Assumes nothing.
+use borrow.Author.Needs.{needs}
+use mathlib.Core.Path.{_≡_, sym, ap, ap₂, _∙_}
+use Prim.Native.Nat.{ℕ}
+use native.Mathlib.Omega.{arith}
+use lib.Ieee.{Float, binary64, toBits}
+use Rattle.calendar.specs.Calendar.{num}
+use Rattle.zone.specs.Zone.{records}
+use Rattle.make.specs.Make.{makeDateF, timeClipF}
+use Rattle.fields.specs.Calls.{shiftOut, newDate, argument, valueFrom}
+use Rattle.fields.specs.Steps.{clockCall, replaced}
+use Rattle.fields.proofs.Setters.{clock-date, same-time}
+use Rattle.fields.proofs.new_time.Statement.{statement}
+use Rattle.fields.proofs.new_time.Tie as tie
+
+parts-of-requires : tie.Need-parts-of-requires
+parts-of-requires c κs = search needs
+
+int-to-float-argument : tie.Need-int-to-float-argument
+int-to-float-argument c = search needs
+
+argument-requires : tie.Need-argument-requires
+argument-requires c κs = search needs
+
+int-to-float-argument-2 : tie.Need-int-to-float-argument-2
+int-to-float-argument-2 c = search needs
+
+argument-requires-2 : tie.Need-argument-requires-2
+argument-requires-2 c κs = search needs
+
+int-to-float-argument-3 : tie.Need-int-to-float-argument-3
+int-to-float-argument-3 c = search needs
+
+argument-requires-3 : tie.Need-argument-requires-3
+argument-requires-3 c κs = search needs
+
+int-to-float-argument-4 : tie.Need-int-to-float-argument-4
+int-to-float-argument-4 c = search needs
+
+argument-requires-4 : tie.Need-argument-requires-4
+argument-requires-4 c κs = search needs
+
+day-requires : tie.Need-day-requires
+day-requires c κs = search needs
+
+make-time-requires : tie.Need-make-time-requires
+make-time-requires c κs = search needs
+
+make-date-requires : tie.Need-make-date-requires
+make-date-requires c κs = search needs
+
+finish-requires : tie.Need-finish-requires
+finish-requires c κs = c .before .before .before .before .before .before .before .before .before .before .before .before .before .before .pre .1 .list
+
+returns : tie.Need-returns
+unfolding valueFrom
+returns c =
+    let d = c .before in
+    let a4 = d .before .before .before in
+    let a3 = a4 .before .before in
+    let a2 = a3 .before .before in
+    let a1 = a2 .before .before in
+    let parts = a1 .before .before .parts-of in
+    let p = a1 .before .before .before .before .before in
+    let a = p .args in
+    let field : ℕ → ℕ → Float = λ k n. replaced (a .fields .now) (a .first) k (num n) in
+    let date : d .make-date .result ≡ newDate (clockCall (a .first)) (a .t) (argument (clockCall (a .first)) (a .t) (a .fields .now)) =
+    d .make-date .ensures
+    ∙ ap₂ makeDateF (d .before .before .day .ensures)
+    (d .before .make-time .ensures
+    ∙ same-time (a1 .argument .ensures ∙ ap (field 0) (parts .ensures .hour-is)) (a2 .argument2 .ensures ∙ ap (field 1) (parts .ensures .minute-is))
+    (a3 .argument3 .ensures ∙ ap (field 2) (parts .ensures .second-is)) (a4 .argument4 .ensures ∙ ap (field 3) (parts .ensures .ms-is)))
+    ∙ clock-date (a .first) (p .pre .0) (a .t) (a .fields .now) in
+    c .finish .ensures ∙ ap (λ (x : Float). toBits binary64 (timeClipF (shiftOut (a .local) (records (a .zone .now)) x))) date
+
+pub new-time-spec : {M : Type 1} → statement M
+new-time-spec =
+    tie.close
+    (tie.spec
+    parts-of-requires
+    int-to-float-argument
+    argument-requires
+    int-to-float-argument-2
+    argument-requires-2
+    int-to-float-argument-3
+    argument-requires-3
+    int-to-float-argument-4
+    argument-requires-4
+    day-requires
+    make-time-requires
+    make-date-requires
+    finish-requires
+    returns)

@@ -1,0 +1,4 @@
+pub mod Calls
+pub mod Outcome
+pub mod Standard
+pub mod Steps
