@@ -5,7 +5,7 @@ use Prim.Native.Nat.{ℕ}
 use denote.Ref.{now}
 use Rattle.writer.specs.Fields.{replied}
 use Rattle.writer.proofs.Written.{prints-leaves, prints-as, fields-printable}
-use Rattle.writer.proofs.Local.{local-takes, suffix-bounded, local-text}
+use Rattle.writer.proofs.Local.{offset-fits, local-takes, local-text}
 use Rattle.writer.proofs.write_local.Statement.{statement}
 use Rattle.writer.proofs.write_local.Tie as tie
 
@@ -27,7 +27,7 @@ local-string-requires c κs =
     let l = o .before in
     let s = l .before .before .before in (
       fields-printable (c .before .date-fields .ensures) (local-takes (now (s .args .zone)) (s .pre .1) (s .pre .0) (l .local-time .ensures) .shown),
-      suffix-bounded (now (s .args .zone)) (s .pre .1) (s .pre .0) (l .local-time .ensures) (o .local-timezone-offset-seconds .ensures),
+      offset-fits _ (s .pre .1 .rule) _ (o .local-timezone-offset-seconds .ensures),
     )
 
 bits-of-requires : tie.Need-bits-of-requires
