@@ -4,7 +4,8 @@ use mathlib.Core.Path.{_≡_, refl, sym, ap, _∙_, subst}
 use mathlib.Core.Bool.{Bool, true, false}
 use mathlib.Core.List.{List}
 use Prim.Native.Nat.{ℕ, _+_, _-_, _*_, _/_, _%_, _^_, _≤_, _<_}
-use native.Mathlib.Nat.{mod-lt, div-add-mod', le-div-iff-mul-le, div-lt-iff-lt-mul, one-mul}
+use native.Mathlib.Nat.{mod-lt, div-add-mod', mod-one, pow-suc, div-div-eq-div-mul, le-div-iff-mul-le, div-lt-iff-lt-mul, one-mul}
+use native.Mathlib.Numerals.{add-one}
 use native.Mathlib.Omega.{arith}
 use borrow.Author.Tests.{eqb-true, eq-eqb, ne-eqb, le-leb, lt-leb}
 use lib.Count.{ones, ones-step, ones-cat, ones-le}
@@ -12,7 +13,7 @@ use lib.Dec.{eqb, leb}
 use lib.Pow.{pow-pos}
 use lib.ListN.{length}
 use lib.Ieee.{Float}
-use Rattle.field_record.specs.FieldRecord.{mapOf, stands, hasLength, hasOtherBit, fieldAt, fieldOr}
+use Rattle.field_record.specs.FieldRecord.{mapOf, stands, hasLength, hasOtherBit, placeOf, fieldAt, fieldOr}
 
 pub right-length : (bytes : List ℕ) → hasLength bytes ≡ true → length bytes ≡ 1 + 8 * ones (mapOf bytes)
 unfolding hasLength
@@ -22,7 +23,12 @@ right-length bytes h = eqb-true (length bytes) (1 + 8 * ones (mapOf bytes)) h
 pub ones-split : (map i : ℕ) → ones map ≡ ones (map / 2 ^ i) + ones (map % 2 ^ i)
 ones-split map i = ap ones (sym (div-add-mod' map (2 ^ i))) ∙ ones-cat i (map / 2 ^ i) (map % 2 ^ i) (mod-lt map (pow-pos i))
 
--- one of them is the bit's own
+-- up to the bit, the ones below it and its own
+pub ones-next : (map i : ℕ) → ones (map % 2 ^ (i + 1)) ≡ ones (map % 2 ^ i) + map / 2 ^ i % 2
+ones-next map i =
+    let half : map / 2 ^ i / 2 ≡ map / 2 ^ (i + 1) = div-div-eq-div-mul map (2 ^ i) 2 ∙ ap (λ (n : ℕ). map / n) (sym (pow-suc 2 i) ∙ ap (λ (n : ℕ). 2 ^ n) (sym (add-one i))) in
+    omega (arith, ones-split map i, ones-split map (i + 1), ones-step (map / 2 ^ i), ap ones half)
+
 pub ones-own : (map i : ℕ) → map / 2 ^ i % 2 ≡ 1 → ones (map % 2 ^ i) + 1 ≤ ones map
 ones-own map i h = omega (arith, ones-split map i, ones-step (map / 2 ^ i))
 
@@ -37,6 +43,23 @@ pub some-other : (map n : ℕ) → (map / 2 ^ n ≡ 0 → ⊥) → leb (2 ^ n) m
 some-other map n h = le-leb (2 ^ n) map (subst (λ (k : ℕ). k ≤ map) (one-mul (2 ^ n)) (le-div-iff-mul-le (pow-pos n) .0 (omega arith)))
 
 -- ---- a field
+pub first-place : (bytes : List ℕ) → placeOf bytes 0 ≡ 1
+unfolding placeOf ones
+first-place bytes = ap (λ (n : ℕ). 1 + 8 * ones n) (mod-one (mapOf bytes))
+
+module _ (bytes : List ℕ) (i : ℕ) where
+  pub place-absent : mapOf bytes / 2 ^ i % 2 ≡ 0 → placeOf bytes (i + 1) ≡ placeOf bytes i
+  unfolding placeOf
+  place-absent h = omega (arith, ones-next (mapOf bytes) i)
+
+  pub place-given : mapOf bytes / 2 ^ i % 2 ≡ 1 → placeOf bytes (i + 1) ≡ placeOf bytes i + 8
+  unfolding placeOf
+  place-given h = omega (arith, ones-next (mapOf bytes) i)
+
+  pub place-room : hasLength bytes ≡ true → mapOf bytes / 2 ^ i % 2 ≡ 1 → placeOf bytes i + 8 ≤ length bytes
+  unfolding placeOf
+  place-room f h = omega (arith, ones-own (mapOf bytes) i h, right-length bytes f)
+
 module _ (bytes : List ℕ) (i : ℕ) (absent : Float) where
   pub field-absent : mapOf bytes / 2 ^ i % 2 ≡ 0 → fieldOr bytes i absent ≡ absent
   unfolding fieldOr

@@ -1,8 +1,9 @@
 -- The field record of document 01, "Corners of date/mod.rs": "one byte of bit map, then 8 bytes (an f64's bits, low byte first) for each bit
 -- that stands, lowest bit first". Definitions only. Assumes nothing.
-use mathlib.Core.Bool.{Bool, cond}
+use mathlib.Core.Path.{_≡_}
+use mathlib.Core.Bool.{Bool, true, cond}
 use mathlib.Core.List.{List}
-use Prim.Native.Nat.{ℕ, _+_, _*_, _/_, _%_, _^_}
+use Prim.Native.Nat.{ℕ, _+_, _*_, _/_, _%_, _^_, _<_}
 use lib.Count.{ones}
 use lib.Dec.{eqb, leb}
 use lib.ListN.{length, getD}
@@ -25,10 +26,20 @@ hasLength bytes = eqb (length bytes) (1 + 8 * ones (mapOf bytes))
 unfoldable pub hasOtherBit : ℕ → List ℕ → Bool
 hasOtherBit n bytes = leb (2 ^ n) (mapOf bytes)
 
--- the field of bit i, where it stands: it comes after those of the lower bits that stand
+-- the place of bit i's field: after the map and the fields of the lower bits that stand
+unfoldable pub placeOf : List ℕ → ℕ → ℕ
+placeOf bytes i = 1 + 8 * ones (mapOf bytes % 2 ^ i)
+
+-- the field of bit i, where it stands
 unfoldable pub fieldAt : List ℕ → ℕ → Float
-fieldAt bytes i = ofBits binary64 (littleEndian 8 bytes (1 + 8 * ones (mapOf bytes % 2 ^ i)))
+fieldAt bytes i = ofBits binary64 (littleEndian 8 bytes (placeOf bytes i))
 
 -- what bit i's field is, with a value for an absent one
 unfoldable pub fieldOr : List ℕ → ℕ → Float → Float
 fieldOr bytes i absent = cond (stands bytes i) (fieldAt bytes i) absent
+
+-- what reading a field rests on: a record of the right length, and the place of the bit's field
+pub record IsPlace (bytes : List ℕ) (i at : ℕ) : Type 0 where
+  pub filled : hasLength bytes ≡ true
+  pub bit : i < 8
+  pub place : at ≡ placeOf bytes i

@@ -1,8 +1,8 @@
 // The field record, in which a call's arguments cross: lent bytes, a map and then 8 for each bit that stands in it.
 ghost use mathlib.Core.Path.{_≡_};
 ghost use mathlib.Core.Bool.{true};
-ghost use Prim.Native.Nat.{_<_};
-ghost use Rattle.field_record.specs.FieldRecord.{hasLength, hasOtherBit, fieldOr};
+ghost use Prim.Native.Nat.{_+_, _<_};
+ghost use Rattle.field_record.specs.FieldRecord.{hasLength, hasOtherBit, placeOf, fieldOr, IsPlace};
 
 // Whether the map's ones fix this length: refusal 3 is the answer `false`.
 pub fn has_length(fields: &[u8]) -> bool
@@ -27,16 +27,26 @@ pub fn has_other_bit(fields: &[u8], bits: u32) -> bool
     true
 }
 
-// The field of a bit, or `absent` where the bit does not stand.
-pub fn field_or(fields: &[u8], bit: u32, absent: f64) -> f64
-    requires { ⌜ (hasLength (now fields) ≡ true) × (bit < 8) ⌝ }
-    ensures { λ r. ⌜ r ≡ fieldOr (now (fields .entry)) bit absent ⌝ }
+// The value of a bit's field, and the place of the next bit's.
+pub struct Field {
+    pub value: f64,
+    pub next: usize,
+}
+
+// The field of a bit, whose place is `at`, or `absent` where the bit does not stand.
+pub fn field_or(fields: &[u8], bit: u32, at: usize, absent: f64) -> Field
+    requires { ⌜ IsPlace (now fields) bit at ⌝ }
+    ensures { λ r. ⌜ (r .value ≡ fieldOr (now (fields .entry)) bit absent) × (r .next ≡ placeOf (now (fields .entry)) (bit + 1)) ⌝ }
 {
-    let map = fields[0] as u32;
-    let from = map >> bit;
+    let from = fields[0] as u32 >> bit;
     if from % 2 == 0 {
-        return absent;
+        return Field {
+            value: absent,
+            next: at,
+        };
     }
-    let before = u32::count_ones(map) - u32::count_ones(from);
-    float::of_bits(zone::u64_at(fields, 1 + 8 * (before as usize)))
+    Field {
+        value: float::of_bits(zone::u64_at(fields, at)),
+        next: at + 8,
+    }
 }

@@ -1,7 +1,7 @@
 -- The two bodies of the setters give each call's own line: with the arguments from a field on, the new date of the clock or of the day is that
 -- of the setter whose first argument that field is. Assumes nothing.
 use mathlib.Core.Path.{_≡_, refl, sym, ap, _∙_, subst}
-use mathlib.Core.Bool.{Bool}
+use mathlib.Core.Bool.{Bool, true}
 use mathlib.Core.List.{List}
 use Prim.Native.Nat.{ℕ, zero, suc, _-_, _<_}
 use native.Mathlib.Omega.{arith}
@@ -17,6 +17,8 @@ use Rattle.calendar.proofs.Whole.{num-whole}
 use Rattle.make.specs.Make.{makeTimeF, makeDayF, makeDateF}
 use Rattle.zone.specs.Zone.{Record}
 use Rattle.parts.specs.Parts.{Takes}
+use Rattle.field_record.specs.FieldRecord.{hasLength, placeOf, IsPlace}
+use Rattle.field_record.proofs.Laws.{first-place}
 use Rattle.answer.proofs.Nan.{nan-bits}
 use Rattle.answer.specs.declared.Reply.{Reply}
 use Rattle.answer.specs.declared.Reply.the-variants.{Time}
@@ -87,3 +89,10 @@ same-time p q r s = cc
 
 pub same-day : {a b c a' b' c' : Float} → a ≡ a' → b ≡ b' → c ≡ c' → makeDayF a b c ≡ makeDayF a' b' c'
 same-day p q r = cc
+
+-- ---- the place of a field's argument, of the k-th field where the first argument is the field `first`
+pub place-at : (fields : List ℕ) (first k at : ℕ) → hasLength fields ≡ true → k < 8 → at ≡ placeOf fields (k - first) → IsPlace fields (k - first) at × (k < 8)
+place-at fields first k at f h e = (record { filled = f; bit = omega arith; place = e }, h)
+
+pub place-first : (fields : List ℕ) (first : ℕ) → hasLength fields ≡ true → IsPlace fields (0 - first) 1 × (0 < 8)
+place-first fields first f = place-at fields first 0 1 f (omega arith) (sym (first-place fields) ∙ ap (placeOf fields) (omega arith))

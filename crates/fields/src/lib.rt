@@ -6,16 +6,17 @@
 // those from its own on, the fields before it keep their present values, and so does an argument that is absent, but for the first.
 ghost use mathlib.Core.Path.{_≡_};
 ghost use mathlib.Core.Bool.{true, not, _&&_};
-ghost use Prim.Native.Nat.{_<_, _-_};
+ghost use Prim.Native.Nat.{_+_, _<_, _-_};
 ghost use lib.Ieee.{binary64, toBits};
 ghost use Rattle.zone.specs.Zone.{Accepted, accepts, records};
 ghost use Rattle.make.specs.Make.{timeClipF};
-ghost use Rattle.field_record.specs.FieldRecord.{hasLength};
+ghost use Rattle.field_record.specs.FieldRecord.{IsPlace, placeOf};
 ghost use Rattle.fields.specs.Calls.{setMilliseconds, setSeconds, setMinutes, setHours, setDate, setMonth, setFullYear, shiftOut, valueFrom};
 ghost use Rattle.fields.specs.Outcome.{isRefused, buildOutcome, setOutcome};
 ghost use Rattle.fields.specs.Steps.{clockCall, dayCall, replaced, started, Ready};
 use answer::Refusal;
 use answer::Reply;
+use field_record::Field;
 use timevalue::TimeValue;
 
 // ---- the rows of the refusal table, and the way in
@@ -95,19 +96,22 @@ fn finish(local: bool, zone: &[u8], date: f64) -> u64
 
 // ---- the setters' fields
 
-// The k-th field of the new date: its present value before the setter's first argument, NaN for that one where it is absent, and the present
-// value for any other absent one.
-fn argument(fields: &[u8], first: u32, k: u32, present: f64) -> f64
-    requires { ⌜ (hasLength (now fields) ≡ true) × (k < 8) ⌝ }
-    ensures { λ r. ⌜ r ≡ replaced (now (fields .entry)) first k present ⌝ }
+// The k-th field of the new date, and the place of the next one's: its present value before the setter's first argument, NaN for that one
+// where it is absent, and the present value for any other absent one.
+fn argument(fields: &[u8], first: u32, k: u32, at: usize, present: f64) -> Field
+    requires { ⌜ IsPlace (now fields) (k - first) at × (k < 8) ⌝ }
+    ensures { λ r. ⌜ (r .value ≡ replaced (now (fields .entry)) first k present) × (r .next ≡ placeOf (now (fields .entry)) (k + 1 - first)) ⌝ }
 {
     if k < first {
-        return present;
+        return Field {
+            value: present,
+            next: at,
+        };
     }
     if k == first {
-        return field_record::field_or(fields, 0, 0.0 / 0.0);
+        return field_record::field_or(fields, 0, at, 0.0 / 0.0);
     }
-    field_record::field_or(fields, k - first, present)
+    field_record::field_or(fields, k - first, at, present)
 }
 
 // MakeDate(Day(t), MakeTime(h, m, s, milli)), on the way out, of the fields hour 0, minute 1, second 2 and millisecond 3.
@@ -116,11 +120,14 @@ fn new_time(first: u32, local: bool, zone: &[u8], t: f64, fields: &[u8]) -> u64
     ensures { λ r. ⌜ r ≡ toBits binary64 (valueFrom (clockCall first) local (records (now (zone .entry))) t (now (fields .entry))) ⌝ }
 {
     let old = parts::parts_of(t);
-    let h = argument(fields, first, 0, old.hour as f64);
-    let m = argument(fields, first, 1, old.minute as f64);
-    let s = argument(fields, first, 2, old.second as f64);
-    let milli = argument(fields, first, 3, old.ms as f64);
-    let date = make::make_date(calendar::day(t), make::make_time(h, m, s, milli));
+    let h = argument(fields, first, 0, 1, old.hour as f64);
+    let m = argument(fields, first, 1, h.next, old.minute as f64);
+    let s = argument(fields, first, 2, m.next, old.second as f64);
+    let milli = argument(fields, first, 3, s.next, old.ms as f64);
+    let date = make::make_date(
+        calendar::day(t),
+        make::make_time(h.value, m.value, s.value, milli.value),
+    );
     finish(local, zone, date)
 }
 
@@ -130,10 +137,13 @@ fn new_day(first: u32, local: bool, zone: &[u8], t: f64, fields: &[u8]) -> u64
     ensures { λ r. ⌜ r ≡ toBits binary64 (valueFrom (dayCall first) local (records (now (zone .entry))) t (now (fields .entry))) ⌝ }
 {
     let old = parts::parts_of(t);
-    let y = argument(fields, first, 0, old.year as f64);
-    let m = argument(fields, first, 1, old.month as f64);
-    let dt = argument(fields, first, 2, old.date as f64);
-    let new_date = make::make_date(make::make_day(y, m, dt), calendar::time_within_day(t));
+    let y = argument(fields, first, 0, 1, old.year as f64);
+    let m = argument(fields, first, 1, y.next, old.month as f64);
+    let dt = argument(fields, first, 2, m.next, old.date as f64);
+    let new_date = make::make_date(
+        make::make_day(y.value, m.value, dt.value),
+        calendar::time_within_day(t),
+    );
     finish(local, zone, new_date)
 }
 
@@ -183,17 +193,20 @@ pub fn build(local: bool, zone: &[u8], fields: &[u8]) -> Reply
     if field_record::has_other_bit(fields, 7) {
         return Reply::Refused(Refusal::RecordMap);
     }
-    let y = field_record::field_or(fields, 0, 0.0 / 0.0);
-    let m = field_record::field_or(fields, 1, 0.0);
-    let dt = field_record::field_or(fields, 2, 1.0);
-    let h = field_record::field_or(fields, 3, 0.0);
-    let min = field_record::field_or(fields, 4, 0.0);
-    let s = field_record::field_or(fields, 5, 0.0);
-    let milli = field_record::field_or(fields, 6, 0.0);
+    let y = field_record::field_or(fields, 0, 1, 0.0 / 0.0);
+    let m = field_record::field_or(fields, 1, y.next, 0.0);
+    let dt = field_record::field_or(fields, 2, m.next, 1.0);
+    let h = field_record::field_or(fields, 3, dt.next, 0.0);
+    let min = field_record::field_or(fields, 4, h.next, 0.0);
+    let s = field_record::field_or(fields, 5, min.next, 0.0);
+    let milli = field_record::field_or(fields, 6, s.next, 0.0);
     // Let yr be MakeFullYear(y).
-    let yr = make::make_full_year(y);
+    let yr = make::make_full_year(y.value);
     // Let finalDate be MakeDate(MakeDay(yr, m, dt), MakeTime(h, min, s, milli)).
-    let final_date = make::make_date(make::make_day(yr, m, dt), make::make_time(h, min, s, milli));
+    let final_date = make::make_date(
+        make::make_day(yr, m.value, dt.value),
+        make::make_time(h.value, min.value, s.value, milli.value),
+    );
     Reply::Time(finish(local, zone, final_date))
 }
 

@@ -9,6 +9,7 @@ use Rattle.zone.specs.Zone.{accepts, records}
 use Rattle.make.specs.Make.{makeDateF, makeFullYearF, timeClipF}
 use Rattle.make.proofs.Tests.{made-nan}
 use Rattle.field_record.specs.FieldRecord.{hasLength, hasOtherBit, fieldOr}
+use Rattle.field_record.proofs.Laws.{first-place}
 use Rattle.answer.specs.declared.Reply.the-variants as reply
 use Rattle.fields.specs.Calls.{build, shiftOut, absent, argument, newDate, valueFrom}
 use Rattle.fields.specs.Outcome.{timeReply, buildOutcome}
@@ -56,25 +57,25 @@ returns-3 c =
     build-map-row (a .local) (a .zone .now) (a .fields .now) (list-ok z) (length-ok l) (sym (c .before .has-other-bit .ensures) ∙ c .if3 .taken)
 
 field-or-requires : tie.Need-field-or-requires
-field-or-requires c κs = (length-ok (c .before .before), lit< tt)
+field-or-requires c κs = record { filled = length-ok (c .before .before); bit = lit< tt; place = sym (first-place _) }
 
 field-or-requires-2 : tie.Need-field-or-requires-2
-field-or-requires-2 c κs = (length-ok (c .before .before .before), lit< tt)
+field-or-requires-2 c κs = record { filled = length-ok (c .before .before .before); bit = lit< tt; place = c .field-or .ensures .1 }
 
 field-or-requires-3 : tie.Need-field-or-requires-3
-field-or-requires-3 c κs = (length-ok (c .before .before .before .before), lit< tt)
+field-or-requires-3 c κs = record { filled = length-ok (c .before .before .before .before); bit = lit< tt; place = c .field-or2 .ensures .1 }
 
 field-or-requires-4 : tie.Need-field-or-requires-4
-field-or-requires-4 c κs = (length-ok (c .before .before .before .before .before), lit< tt)
+field-or-requires-4 c κs = record { filled = length-ok (c .before .before .before .before .before); bit = lit< tt; place = c .field-or3 .ensures .1 }
 
 field-or-requires-5 : tie.Need-field-or-requires-5
-field-or-requires-5 c κs = (length-ok (c .before .before .before .before .before .before), lit< tt)
+field-or-requires-5 c κs = record { filled = length-ok (c .before .before .before .before .before .before); bit = lit< tt; place = c .field-or4 .ensures .1 }
 
 field-or-requires-6 : tie.Need-field-or-requires-6
-field-or-requires-6 c κs = (length-ok (c .before .before .before .before .before .before .before), lit< tt)
+field-or-requires-6 c κs = record { filled = length-ok (c .before .before .before .before .before .before .before); bit = lit< tt; place = c .field-or5 .ensures .1 }
 
 field-or-requires-7 : tie.Need-field-or-requires-7
-field-or-requires-7 c κs = (length-ok (c .before .before .before .before .before .before .before .before), lit< tt)
+field-or-requires-7 c κs = record { filled = length-ok (c .before .before .before .before .before .before .before .before); bit = lit< tt; place = c .field-or6 .ensures .1 }
 
 make-full-year-requires : tie.Need-make-full-year-requires
 make-full-year-requires c κs = search needs
@@ -114,8 +115,8 @@ returns-4 c =
     d .make-date .ensures
     ∙ ap₂ makeDateF
     (d .before .before .make-day .ensures
-    ∙ same-day (y .make-full-year .ensures ∙ ap makeFullYearF (f1 .field-or .ensures ∙ ap (fieldOr (a .fields .now) 0) made-nan)) (f2 .field-or2 .ensures) (f3 .field-or3 .ensures))
-    (d .before .make-time .ensures ∙ same-time (f4 .field-or4 .ensures) (f5 .field-or5 .ensures) (f6 .field-or6 .ensures) (f7 .field-or7 .ensures)) in
+    ∙ same-day (y .make-full-year .ensures ∙ ap makeFullYearF (f1 .field-or .ensures .0 ∙ ap (fieldOr (a .fields .now) 0) made-nan)) (f2 .field-or2 .ensures .0) (f3 .field-or3 .ensures .0))
+    (d .before .make-time .ensures ∙ same-time (f4 .field-or4 .ensures .0) (f5 .field-or5 .ensures .0) (f6 .field-or6 .ensures .0) (f7 .field-or7 .ensures .0)) in
     ap reply.Time (c .finish .ensures ∙ ap (λ (x : Float). toBits binary64 (timeClipF (shiftOut (a .local) (records (a .zone .now)) x))) date)
     ∙ build-row (a .local) (a .zone .now) (a .fields .now) (list-ok z) (length-ok l) (sym (m .before .has-other-bit .ensures) ∙ m .if3 .left)
 

@@ -12,7 +12,7 @@ use Rattle.zone.specs.Zone.{records}
 use Rattle.make.specs.Make.{makeDateF, timeClipF}
 use Rattle.fields.specs.Calls.{shiftOut, newDate, argument, valueFrom}
 use Rattle.fields.specs.Steps.{dayCall, replaced}
-use Rattle.fields.proofs.Setters.{day-date, same-day}
+use Rattle.fields.proofs.Setters.{day-date, same-day, place-at, place-first}
 use Rattle.fields.proofs.new_day.Statement.{statement}
 use Rattle.fields.proofs.new_day.Tie as tie
 
@@ -23,19 +23,19 @@ int-to-float-argument : tie.Need-int-to-float-argument
 int-to-float-argument c = search needs
 
 argument-requires : tie.Need-argument-requires
-argument-requires c κs = search needs
+argument-requires c κs = let p = c .before .before .before .before .before in place-first (p .args .fields .now) (p .args .first) (p .pre .1 .filled)
 
 int-to-float-argument-2 : tie.Need-int-to-float-argument-2
 int-to-float-argument-2 c = search needs
 
 argument-requires-2 : tie.Need-argument-requires-2
-argument-requires-2 c κs = search needs
+argument-requires-2 c κs = let p = c .before .before .before .before .before .before .before in place-at (p .args .fields .now) (p .args .first) 1 _ (p .pre .1 .filled) (omega arith) (c .before .argument .ensures .1)
 
 int-to-float-argument-3 : tie.Need-int-to-float-argument-3
 int-to-float-argument-3 c = search needs
 
 argument-requires-3 : tie.Need-argument-requires-3
-argument-requires-3 c κs = search needs
+argument-requires-3 c κs = let p = c .before .before .before .before .before .before .before .before .before in place-at (p .args .fields .now) (p .args .first) 2 _ (p .pre .1 .filled) (omega arith) (c .before .argument2 .ensures .1)
 
 make-day-requires : tie.Need-make-day-requires
 make-day-requires c κs = search needs
@@ -64,8 +64,8 @@ returns c =
     d .make-date .ensures
     ∙ ap₂ makeDateF
     (d .before .before .make-day .ensures
-    ∙ same-day (a1 .argument .ensures ∙ ap (λ (y : ℤ). replaced (a .fields .now) (a .first) 0 (ofInt binary64 y)) (kept {w = w32} (record { sfits = a1 .before .struct-told .given .0 .1 }) ∙ parts .ensures .year-is))
-    (a2 .argument2 .ensures ∙ ap (field 1) (parts .ensures .month-is)) (a3 .argument3 .ensures ∙ ap (field 2) (parts .ensures .date-is)))
+    ∙ same-day (a1 .argument .ensures .0 ∙ ap (λ (y : ℤ). replaced (a .fields .now) (a .first) 0 (ofInt binary64 y)) (kept {w = w32} (record { sfits = a1 .before .struct-told .given .0 .1 }) ∙ parts .ensures .year-is))
+    (a2 .argument2 .ensures .0 ∙ ap (field 1) (parts .ensures .month-is)) (a3 .argument3 .ensures .0 ∙ ap (field 2) (parts .ensures .date-is)))
     (d .before .time-within-day .ensures)
     ∙ day-date (a .first) (p .pre .0) (a .t) (a .fields .now) in
     c .finish .ensures ∙ ap (λ (x : Float). toBits binary64 (timeClipF (shiftOut (a .local) (records (a .zone .now)) x))) date

@@ -9,7 +9,7 @@ use Rattle.zone.specs.Zone.{records}
 use Rattle.make.specs.Make.{makeDateF, timeClipF}
 use Rattle.fields.specs.Calls.{shiftOut, newDate, argument, valueFrom}
 use Rattle.fields.specs.Steps.{clockCall, replaced}
-use Rattle.fields.proofs.Setters.{clock-date, same-time}
+use Rattle.fields.proofs.Setters.{clock-date, same-time, place-at, place-first}
 use Rattle.fields.proofs.new_time.Statement.{statement}
 use Rattle.fields.proofs.new_time.Tie as tie
 
@@ -20,25 +20,25 @@ int-to-float-argument : tie.Need-int-to-float-argument
 int-to-float-argument c = search needs
 
 argument-requires : tie.Need-argument-requires
-argument-requires c κs = search needs
+argument-requires c κs = let p = c .before .before .before .before in place-first (p .args .fields .now) (p .args .first) (p .pre .1 .filled)
 
 int-to-float-argument-2 : tie.Need-int-to-float-argument-2
 int-to-float-argument-2 c = search needs
 
 argument-requires-2 : tie.Need-argument-requires-2
-argument-requires-2 c κs = search needs
+argument-requires-2 c κs = let p = c .before .before .before .before .before .before in place-at (p .args .fields .now) (p .args .first) 1 _ (p .pre .1 .filled) (omega arith) (c .before .argument .ensures .1)
 
 int-to-float-argument-3 : tie.Need-int-to-float-argument-3
 int-to-float-argument-3 c = search needs
 
 argument-requires-3 : tie.Need-argument-requires-3
-argument-requires-3 c κs = search needs
+argument-requires-3 c κs = let p = c .before .before .before .before .before .before .before .before in place-at (p .args .fields .now) (p .args .first) 2 _ (p .pre .1 .filled) (omega arith) (c .before .argument2 .ensures .1)
 
 int-to-float-argument-4 : tie.Need-int-to-float-argument-4
 int-to-float-argument-4 c = search needs
 
 argument-requires-4 : tie.Need-argument-requires-4
-argument-requires-4 c κs = search needs
+argument-requires-4 c κs = let p = c .before .before .before .before .before .before .before .before .before .before in place-at (p .args .fields .now) (p .args .first) 3 _ (p .pre .1 .filled) (omega arith) (c .before .argument3 .ensures .1)
 
 day-requires : tie.Need-day-requires
 day-requires c κs = search needs
@@ -68,8 +68,8 @@ returns c =
     d .make-date .ensures
     ∙ ap₂ makeDateF (d .before .before .day .ensures)
     (d .before .make-time .ensures
-    ∙ same-time (a1 .argument .ensures ∙ ap (field 0) (parts .ensures .hour-is)) (a2 .argument2 .ensures ∙ ap (field 1) (parts .ensures .minute-is))
-    (a3 .argument3 .ensures ∙ ap (field 2) (parts .ensures .second-is)) (a4 .argument4 .ensures ∙ ap (field 3) (parts .ensures .ms-is)))
+    ∙ same-time (a1 .argument .ensures .0 ∙ ap (field 0) (parts .ensures .hour-is)) (a2 .argument2 .ensures .0 ∙ ap (field 1) (parts .ensures .minute-is))
+    (a3 .argument3 .ensures .0 ∙ ap (field 2) (parts .ensures .second-is)) (a4 .argument4 .ensures .0 ∙ ap (field 3) (parts .ensures .ms-is)))
     ∙ clock-date (a .first) (p .pre .0) (a .t) (a .fields .now) in
     c .finish .ensures ∙ ap (λ (x : Float). toBits binary64 (timeClipF (shiftOut (a .local) (records (a .zone .now)) x))) date
 
