@@ -79,6 +79,36 @@ zovattha_answer zovattha_to_utc_string(uint64_t time, uint8_t *out, size_t out_l
 /* Thu Feb 29 2024 14:00:00 GMT+0200. 33 to 36 bytes, or 12. Refusals 1, 2, 11. */
 zovattha_answer zovattha_to_string(const uint8_t *zone, size_t zone_len, uint64_t time, uint8_t *out, size_t out_len);
 
+/*
+ * Field builder and setters. A field record is one byte of bit map, then 8 bytes (an f64's bits, low byte first) for each bit that
+ * stands, lowest bit first. Each answers a time value (ZOVATTHA_NAN where the result is out of range) and length 0.
+ *
+ * Builder's bits 0 to 6: year, month (January is 0), date, hour, minute, second, millisecond. Absent: month 0, date 1, others 0, but
+ * year NaN. Years 0 to 99 are 1900 to 1999. Refusals 3, 4; the local one 1, 3, 4.
+ */
+zovattha_answer zovattha_build_utc(const uint8_t *record, size_t record_len);
+zovattha_answer zovattha_build_local(const uint8_t *zone, size_t zone_len, const uint8_t *record, size_t record_len);
+
+/*
+ * Setters: bit 0 is the first argument and so on. An absent first argument is NaN; any other keeps its present value. NaN gives NaN, but
+ * full_year starts from 0. Refusals 2, 3, 4; the local ones 1, 2, 3, 4.
+ */
+zovattha_answer zovattha_set_utc_milliseconds(uint64_t time, const uint8_t *record, size_t record_len); /* ms */
+zovattha_answer zovattha_set_utc_seconds(uint64_t time, const uint8_t *record, size_t record_len); /* sec, ms */
+zovattha_answer zovattha_set_utc_minutes(uint64_t time, const uint8_t *record, size_t record_len); /* min, sec, ms */
+zovattha_answer zovattha_set_utc_hours(uint64_t time, const uint8_t *record, size_t record_len); /* hour, min, sec, ms */
+zovattha_answer zovattha_set_utc_date(uint64_t time, const uint8_t *record, size_t record_len); /* date */
+zovattha_answer zovattha_set_utc_month(uint64_t time, const uint8_t *record, size_t record_len); /* month, date */
+zovattha_answer zovattha_set_utc_full_year(uint64_t time, const uint8_t *record, size_t record_len); /* year, month, date */
+
+zovattha_answer zovattha_set_milliseconds(const uint8_t *zone, size_t zone_len, uint64_t time, const uint8_t *record, size_t record_len);
+zovattha_answer zovattha_set_seconds(const uint8_t *zone, size_t zone_len, uint64_t time, const uint8_t *record, size_t record_len);
+zovattha_answer zovattha_set_minutes(const uint8_t *zone, size_t zone_len, uint64_t time, const uint8_t *record, size_t record_len);
+zovattha_answer zovattha_set_hours(const uint8_t *zone, size_t zone_len, uint64_t time, const uint8_t *record, size_t record_len);
+zovattha_answer zovattha_set_date(const uint8_t *zone, size_t zone_len, uint64_t time, const uint8_t *record, size_t record_len);
+zovattha_answer zovattha_set_month(const uint8_t *zone, size_t zone_len, uint64_t time, const uint8_t *record, size_t record_len);
+zovattha_answer zovattha_set_full_year(const uint8_t *zone, size_t zone_len, uint64_t time, const uint8_t *record, size_t record_len);
+
 #ifdef __cplusplus
 }
 #endif

@@ -10,3 +10,7 @@ use Rattle.zovattha.specs.Call.{Answers}
 
 pub answers : {o : Outcome} {reply : Reply} {r : Answer} {last : List ℕ} → Leaves o reply last → r ≡ replyOf reply → Answers o r last
 answers h e = record { answer-is = e ∙ ap replyOf (h .reply-is); output-is = h .output-is }
+
+-- a call that was lent no output
+pub replied : {r : Answer} {a b : Reply} → r ≡ replyOf a → a ≡ b → r ≡ replyOf b
+replied e f = e ∙ ap replyOf f

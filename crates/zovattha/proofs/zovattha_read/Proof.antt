@@ -1,7 +1,6 @@
 -- `zovattha::zovattha_read` meets its contract. Assumes nothing.
 use borrow.Author.Needs.{needs}
-use mathlib.Core.Path.{ap, _∙_}
-use Rattle.answer.specs.Answer.{replyOf}
+use Rattle.zovattha.proofs.Doors.{replied}
 use Rattle.zovattha.proofs.zovattha_read.Statement.{statement}
 use Rattle.zovattha.proofs.zovattha_read.Tie as tie
 
@@ -12,7 +11,7 @@ reply-of-requires : tie.Need-reply-of-requires
 reply-of-requires c κs = search needs
 
 returns : tie.Need-returns
-returns c = c .reply-of .ensures ∙ ap replyOf (c .before .read .ensures)
+returns c = replied (c .reply-of .ensures) (c .before .read .ensures)
 
 pub zovattha-read-spec : {M : Type 1} → statement M
 zovattha-read-spec = tie.close (tie.spec read-requires reply-of-requires returns)

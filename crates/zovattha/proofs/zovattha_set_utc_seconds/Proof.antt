@@ -1,0 +1,21 @@
+-- `zovattha::zovattha_set_utc_seconds` meets its contract. Assumes nothing.
+use borrow.Author.Needs.{needs}
+use Rattle.zovattha.proofs.Doors.{replied}
+use Rattle.zovattha.proofs.zovattha_set_utc_seconds.Statement.{statement}
+use Rattle.zovattha.proofs.zovattha_set_utc_seconds.Tie as tie
+
+slice-aggregate-set-seconds : tie.Need-slice-aggregate-set-seconds
+slice-aggregate-set-seconds c = search needs
+
+set-seconds-requires : tie.Need-set-seconds-requires
+set-seconds-requires c κs = search needs
+
+reply-of-requires : tie.Need-reply-of-requires
+reply-of-requires c κs = search needs
+
+returns : tie.Need-returns
+returns c = replied (c .reply-of .ensures) (c .before .set-seconds .ensures)
+
+pub zovattha-set-utc-seconds-spec : {M : Type 1} → statement M
+zovattha-set-utc-seconds-spec =
+    tie.close (tie.spec slice-aggregate-set-seconds set-seconds-requires reply-of-requires returns)
