@@ -7,7 +7,6 @@ use std::{env, fs};
 
 fn main() {
     println!("cargo::rerun-if-env-changed=ZOVATTHA_LIB");
-    println!("cargo::rustc-check-cfg=cfg(fields)");
     let manifest = PathBuf::from(env::var_os("CARGO_MANIFEST_DIR").unwrap());
     let default = manifest.join("../../target/staticlib/libzovattha.a");
     let archive = env::var_os("ZOVATTHA_LIB").map_or(default, PathBuf::from);
@@ -18,12 +17,8 @@ fn main() {
     let declared = declared(&manifest.join("src/ffi.rs"));
     let defined = defined(&archive);
     let absent: Vec<_> = declared.iter().filter(|name| !defined.contains(name)).collect();
-    if absent.is_empty() {
-        println!("cargo::rustc-cfg=fields");
-    } else if absent.iter().any(|name| !is_of_fields(name)) {
+    if !absent.is_empty() {
         stop(&format!("{} lacks {absent:?}", archive.display()));
-    } else {
-        println!("cargo::warning=the archive has no builder and setters yet: they are left out");
     }
     link(&archive);
 }
@@ -32,10 +27,6 @@ fn main() {
 fn stop(fault: &str) -> ! {
     println!("cargo::error={fault}: make it by `rt staticlib zovattha`, or set ZOVATTHA_LIB");
     exit(1);
-}
-
-fn is_of_fields(name: &str) -> bool {
-    name.starts_with("zovattha_build_") || name.starts_with("zovattha_set_")
 }
 
 /// The functions that src/ffi.rs declares.

@@ -1,6 +1,7 @@
 //! The calls: reading, rewriting, writing, and the fields.
 
 use crate::ffi::{self, Answer};
+use crate::fields::{Date, Fields, FullYear, Hours, Milliseconds, Minutes, Month, Seconds};
 use crate::{Refusal, ZoneList};
 
 /// The last time of the range; the first is its negative.
@@ -149,114 +150,106 @@ fn written(out: &[u8], answer: Answer) -> &str {
     str::from_utf8(&out[..answer.length]).expect("the writers write ASCII")
 }
 
-#[cfg(fields)]
-pub use of_fields::*;
+// ---- the builder and the setters
 
-/// The builder and the setters.
-#[cfg(fields)]
-mod of_fields {
-    use super::{Answer, Refusal, ZoneList, ffi};
-    use crate::fields::{Date, Fields, FullYear, Hours, Milliseconds, Minutes, Month, Seconds};
+/// A call that has no refusal left: its record is whole and its list was accepted.
+fn built(answer: Answer) -> f64 {
+    answer.checked().expect("a record made by name is never turned back").time()
+}
 
-    /// A call that has no refusal left: its record is whole and its list was accepted.
-    fn built(answer: Answer) -> f64 {
-        answer.checked().expect("a record made by name is never turned back").time()
-    }
+/// The time of fields in UTC; NaN where it is outside the range or a field is not finite.
+///
+/// ```
+/// use zovattha::{Fields, build_utc};
+///
+/// let leap_day = Fields::new().year(2024).month(1).date(29).hour(12);
+/// assert_eq!(build_utc(&leap_day), 1709208000000.0);
+/// assert!(build_utc(&Fields::new().month(1)).is_nan());
+/// ```
+pub fn build_utc(fields: &Fields) -> f64 {
+    let record = fields.record();
+    let record = record.as_bytes();
+    built(unsafe { ffi::zovattha_build_utc(record.as_ptr(), record.len()) })
+}
 
-    /// The time of fields in UTC; NaN where it is outside the range or a field is not finite.
-    ///
+/// The time of local fields; NaN where it is outside the range or a field is not finite.
+///
+/// ```
+/// use zovattha::{Fields, ZoneList, ZoneRecord, build_local};
+///
+/// let house = ZoneList::from_records(&[ZoneRecord { second: 0, offset: 3600 }])?;
+/// assert_eq!(build_local(&house, &Fields::new().year(1970).hour(1)), 0.0);
+/// # Ok::<(), zovattha::Refusal>(())
+/// ```
+pub fn build_local(zone: &ZoneList, fields: &Fields) -> f64 {
+    let (zone, record) = (zone.as_bytes(), fields.record());
+    let (z, zn, record) = (zone.as_ptr(), zone.len(), record.as_bytes());
+    built(unsafe { ffi::zovattha_build_local(z, zn, record.as_ptr(), record.len()) })
+}
+
+/// A setter in UTC and by a list, over the same fields.
+macro_rules! setters {
+    ($($(#[$example:meta])* $fields:ident: $utc:ident $c_utc:ident, $local:ident $c_local:ident, $what:literal;)*) => {
+        $(
+        #[doc = concat!("The time with its UTC ", $what, " set; NaN where that is outside the range.")]
+        ///
+        /// # Errors
+        /// [`Refusal::TimeValue`].
+        pub fn $utc(time: f64, fields: &$fields) -> Result<f64, Refusal> {
+            let record = fields.record();
+            let record = record.as_bytes();
+            let answer =
+                unsafe { ffi::$c_utc(time.to_bits(), record.as_ptr(), record.len()) };
+            answer.checked().map(Answer::time)
+        }
+
+        #[doc = concat!("The time with its local ", $what, " set; NaN where that is outside the range.")]
+        ///
+        $(#[$example])*
+        /// # Errors
+        /// [`Refusal::TimeValue`].
+        pub fn $local(zone: &ZoneList, time: f64, fields: &$fields) -> Result<f64, Refusal> {
+            let (zone, record) = (zone.as_bytes(), fields.record());
+            let (z, zn, record) = (zone.as_ptr(), zone.len(), record.as_bytes());
+            let time = time.to_bits();
+            let answer =
+                unsafe { ffi::$c_local(z, zn, time, record.as_ptr(), record.len()) };
+            answer.checked().map(Answer::time)
+        }
+        )*
+    };
+}
+setters! {
+    Milliseconds: set_utc_milliseconds zovattha_set_utc_milliseconds,
+        set_milliseconds zovattha_set_milliseconds, "millisecond";
+    Seconds: set_utc_seconds zovattha_set_utc_seconds,
+        set_seconds zovattha_set_seconds, "second (and millisecond)";
+    Minutes: set_utc_minutes zovattha_set_utc_minutes,
+        set_minutes zovattha_set_minutes, "minute (and smaller fields)";
     /// ```
-    /// use zovattha::{Fields, build_utc};
-    ///
-    /// let leap_day = Fields::new().year(2024).month(1).date(29).hour(12);
-    /// assert_eq!(build_utc(&leap_day), 1709208000000.0);
-    /// assert!(build_utc(&Fields::new().month(1)).is_nan());
-    /// ```
-    pub fn build_utc(fields: &Fields) -> f64 {
-        let record = fields.record();
-        let record = record.as_bytes();
-        built(unsafe { ffi::zovattha_build_utc(record.as_ptr(), record.len()) })
-    }
-
-    /// The time of local fields; NaN where it is outside the range or a field is not finite.
-    ///
-    /// ```
-    /// use zovattha::{Fields, ZoneList, ZoneRecord, build_local};
+    /// use zovattha::{Hours, ZoneList, ZoneRecord, set_hours, to_iso_string};
     ///
     /// let house = ZoneList::from_records(&[ZoneRecord { second: 0, offset: 3600 }])?;
-    /// assert_eq!(build_local(&house, &Fields::new().year(1970).hour(1)), 0.0);
+    /// let start = set_hours(&house, 1709208000000.0, &Hours::new().hour(20).minute(15))?;
+    /// assert_eq!(to_iso_string(start)?, "2024-02-29T19:15:00.000Z");
     /// # Ok::<(), zovattha::Refusal>(())
     /// ```
-    pub fn build_local(zone: &ZoneList, fields: &Fields) -> f64 {
-        let (zone, record) = (zone.as_bytes(), fields.record());
-        let (z, zn, record) = (zone.as_ptr(), zone.len(), record.as_bytes());
-        built(unsafe { ffi::zovattha_build_local(z, zn, record.as_ptr(), record.len()) })
-    }
-
-    /// A setter in UTC and by a list, over the same fields.
-    macro_rules! setters {
-        ($($(#[$example:meta])* $fields:ident: $utc:ident $c_utc:ident, $local:ident $c_local:ident, $what:literal;)*) => {
-            $(
-            #[doc = concat!("The time with its UTC ", $what, " set; NaN where that is outside the range.")]
-            ///
-            /// # Errors
-            /// [`Refusal::TimeValue`].
-            pub fn $utc(time: f64, fields: &$fields) -> Result<f64, Refusal> {
-                let record = fields.record();
-                let record = record.as_bytes();
-                let answer =
-                    unsafe { ffi::$c_utc(time.to_bits(), record.as_ptr(), record.len()) };
-                answer.checked().map(Answer::time)
-            }
-
-            #[doc = concat!("The time with its local ", $what, " set; NaN where that is outside the range.")]
-            ///
-            $(#[$example])*
-            /// # Errors
-            /// [`Refusal::TimeValue`].
-            pub fn $local(zone: &ZoneList, time: f64, fields: &$fields) -> Result<f64, Refusal> {
-                let (zone, record) = (zone.as_bytes(), fields.record());
-                let (z, zn, record) = (zone.as_ptr(), zone.len(), record.as_bytes());
-                let time = time.to_bits();
-                let answer =
-                    unsafe { ffi::$c_local(z, zn, time, record.as_ptr(), record.len()) };
-                answer.checked().map(Answer::time)
-            }
-            )*
-        };
-    }
-    setters! {
-        Milliseconds: set_utc_milliseconds zovattha_set_utc_milliseconds,
-            set_milliseconds zovattha_set_milliseconds, "millisecond";
-        Seconds: set_utc_seconds zovattha_set_utc_seconds,
-            set_seconds zovattha_set_seconds, "second (and millisecond)";
-        Minutes: set_utc_minutes zovattha_set_utc_minutes,
-            set_minutes zovattha_set_minutes, "minute (and smaller fields)";
-        /// ```
-        /// use zovattha::{Hours, ZoneList, ZoneRecord, set_hours, to_iso_string};
-        ///
-        /// let house = ZoneList::from_records(&[ZoneRecord { second: 0, offset: 3600 }])?;
-        /// let start = set_hours(&house, 1709208000000.0, &Hours::new().hour(20).minute(15))?;
-        /// assert_eq!(to_iso_string(start)?, "2024-02-29T19:15:00.000Z");
-        /// # Ok::<(), zovattha::Refusal>(())
-        /// ```
-        ///
-        Hours: set_utc_hours zovattha_set_utc_hours,
-            set_hours zovattha_set_hours, "hour (and smaller fields)";
-        Date: set_utc_date zovattha_set_utc_date,
-            set_date zovattha_set_date, "day of the month";
-        /// ```
-        /// use zovattha::{Month, ZoneList, set_month, to_iso_string};
-        ///
-        /// // 31 January becomes 31 February, which is 2 March.
-        /// let moved = set_month(&ZoneList::utc(), 1706659200000.0, &Month::new().month(1))?;
-        /// assert_eq!(to_iso_string(moved)?, "2024-03-02T00:00:00.000Z");
-        /// # Ok::<(), zovattha::Refusal>(())
-        /// ```
-        ///
-        Month: set_utc_month zovattha_set_utc_month,
-            set_month zovattha_set_month, "month (and day)";
-        FullYear: set_utc_full_year zovattha_set_utc_full_year,
-            set_full_year zovattha_set_full_year, "year (and month and day)";
-    }
+    ///
+    Hours: set_utc_hours zovattha_set_utc_hours,
+        set_hours zovattha_set_hours, "hour (and smaller fields)";
+    Date: set_utc_date zovattha_set_utc_date,
+        set_date zovattha_set_date, "day of the month";
+    /// ```
+    /// use zovattha::{Month, ZoneList, set_month, to_iso_string};
+    ///
+    /// // 31 January becomes 31 February, which is 2 March.
+    /// let moved = set_month(&ZoneList::utc(), 1706659200000.0, &Month::new().month(1))?;
+    /// assert_eq!(to_iso_string(moved)?, "2024-03-02T00:00:00.000Z");
+    /// # Ok::<(), zovattha::Refusal>(())
+    /// ```
+    ///
+    Month: set_utc_month zovattha_set_utc_month,
+        set_month zovattha_set_month, "month (and day)";
+    FullYear: set_utc_full_year zovattha_set_utc_full_year,
+        set_full_year zovattha_set_full_year, "year (and month and day)";
 }

@@ -39,55 +39,44 @@ unsafe extern "C" {
         out: *mut u8,
         out_len: usize,
     ) -> Answer;
+    pub fn zovattha_build_utc(record: *const u8, record_len: usize) -> Answer;
+    pub fn zovattha_build_local(
+        zone: *const u8,
+        zone_len: usize,
+        record: *const u8,
+        record_len: usize,
+    ) -> Answer;
 }
 
-#[cfg(fields)]
-pub use fields::*;
-
-#[cfg(fields)]
-mod fields {
-    use super::Answer;
-
-    unsafe extern "C" {
-        pub fn zovattha_build_utc(record: *const u8, record_len: usize) -> Answer;
-        pub fn zovattha_build_local(
-            zone: *const u8,
-            zone_len: usize,
-            record: *const u8,
-            record_len: usize,
-        ) -> Answer;
-    }
-
-    /// A setter in UTC and the same by a zone list.
-    macro_rules! setters {
-        ($(pub fn $utc:ident(time, record);
-           pub fn $local:ident(zone, time, record);)*) => {
-            unsafe extern "C" {
-                $(pub fn $utc(time: u64, record: *const u8, record_len: usize) -> Answer;
-                pub fn $local(
-                    zone: *const u8,
-                    zone_len: usize,
-                    time: u64,
-                    record: *const u8,
-                    record_len: usize,
-                ) -> Answer;)*
-            }
-        };
-    }
-    setters! {
-        pub fn zovattha_set_utc_milliseconds(time, record);
-        pub fn zovattha_set_milliseconds(zone, time, record);
-        pub fn zovattha_set_utc_seconds(time, record);
-        pub fn zovattha_set_seconds(zone, time, record);
-        pub fn zovattha_set_utc_minutes(time, record);
-        pub fn zovattha_set_minutes(zone, time, record);
-        pub fn zovattha_set_utc_hours(time, record);
-        pub fn zovattha_set_hours(zone, time, record);
-        pub fn zovattha_set_utc_date(time, record);
-        pub fn zovattha_set_date(zone, time, record);
-        pub fn zovattha_set_utc_month(time, record);
-        pub fn zovattha_set_month(zone, time, record);
-        pub fn zovattha_set_utc_full_year(time, record);
-        pub fn zovattha_set_full_year(zone, time, record);
-    }
+/// A setter in UTC and the same by a zone list.
+macro_rules! setters {
+    ($(pub fn $utc:ident(time, record);
+       pub fn $local:ident(zone, time, record);)*) => {
+        unsafe extern "C" {
+            $(pub fn $utc(time: u64, record: *const u8, record_len: usize) -> Answer;
+            pub fn $local(
+                zone: *const u8,
+                zone_len: usize,
+                time: u64,
+                record: *const u8,
+                record_len: usize,
+            ) -> Answer;)*
+        }
+    };
+}
+setters! {
+    pub fn zovattha_set_utc_milliseconds(time, record);
+    pub fn zovattha_set_milliseconds(zone, time, record);
+    pub fn zovattha_set_utc_seconds(time, record);
+    pub fn zovattha_set_seconds(zone, time, record);
+    pub fn zovattha_set_utc_minutes(time, record);
+    pub fn zovattha_set_minutes(zone, time, record);
+    pub fn zovattha_set_utc_hours(time, record);
+    pub fn zovattha_set_hours(zone, time, record);
+    pub fn zovattha_set_utc_date(time, record);
+    pub fn zovattha_set_date(zone, time, record);
+    pub fn zovattha_set_utc_month(time, record);
+    pub fn zovattha_set_month(zone, time, record);
+    pub fn zovattha_set_utc_full_year(time, record);
+    pub fn zovattha_set_full_year(zone, time, record);
 }

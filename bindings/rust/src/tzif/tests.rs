@@ -105,7 +105,7 @@ fn spans_and_lists_have_bounds() {
     assert_eq!(list_of(&file, 2024..=2534).unwrap().len(), 1 + 2 * 511);
     let longer = list_of(&file, 2024..=2536);
     assert_eq!(longer, Err(TzifError::List { records: 1 + 2 * 513 }));
-    for years in [2025..=2024, 2024..=i64::MAX, i64::MIN..=2024] {
+    for years in [RangeInclusive::new(2025, 2024), 2024..=i64::MAX, i64::MIN..=2024] {
         assert_eq!(list_of(&file, years.clone()), Err(TzifError::Years(years)));
     }
     let far = tzif(b'2', &[86_400], &[], 0, "AAA-24");
