@@ -1,0 +1,4 @@
+pub mod Halving
+pub mod Part
+pub mod Decoding
+pub mod Same
