@@ -3,3 +3,4 @@ pub mod Setters
 pub mod Exact
 pub mod Values
 pub mod Outcomes
+mod Examples
