@@ -11,7 +11,7 @@ pub fn table(run: &Run) -> String {
     for group in Group::ALL {
         rows(&mut out, group, run);
     }
-    out
+    out + &crate::v8::table(run)
 }
 
 /// The rows of a group.
@@ -90,10 +90,12 @@ fn capitalised(name: &str) -> String {
     first.to_uppercase() + rest
 }
 
-/// docs/BENCH.md.
+/// docs/BENCH.md: how it was measured, the table, and the notes kept by hand.
 pub fn page(table: &str) -> String {
-    format!("{HEAD}\n{table}")
+    format!("{HEAD}\n{table}\n{NOTES}")
 }
+
+const NOTES: &str = include_str!("../notes.md");
 
 const HEAD: &str = "\
 # Speed

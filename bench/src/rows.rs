@@ -79,6 +79,8 @@ pub struct Run {
     pub string: f64,
     /// Lines a second of the program `datecheck`, where it is built.
     pub datecheck: Option<f64>,
+    /// What V8 took, where node is at hand.
+    pub v8: Option<Vec<(String, String)>>,
 }
 
 pub fn run() -> Run {
@@ -98,7 +100,7 @@ pub fn run() -> Run {
     let string = timing::one(INPUTS, |i| {
         black_box(zovattha::to_iso_string(times[i])).ok();
     });
-    Run { rows, judging, cleared, string, datecheck: datecheck() }
+    Run { rows, judging, cleared, string, datecheck: datecheck(), v8: crate::v8::run() }
 }
 
 /// A zone list on both sides.
