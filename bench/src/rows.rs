@@ -143,10 +143,14 @@ fn row(group: Group, name: String, zone: Option<&Zone>, pair: Pair) -> Row {
 fn judging(zone: &Zone) -> f64 {
     let infinite = [f64::INFINITY; INPUTS];
     let mut out = [0; 40];
-    let listed = timing::one(INPUTS, |i| {
+    // It is subtracted from others, and one that is too long would flatter them: so more rounds.
+    let best = |call: &mut dyn FnMut(usize)| {
+        (0..6).map(|_| timing::one(INPUTS, &mut *call)).fold(f64::INFINITY, f64::min)
+    };
+    let listed = best(&mut |i| {
         black_box(local(&zone.list, black_box(infinite[i]), &mut out));
     });
-    let unlisted = timing::one(INPUTS, |i| {
+    let unlisted = best(&mut |i| {
         black_box(utc(black_box(infinite[i]), &mut out));
     });
     listed - unlisted
