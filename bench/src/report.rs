@@ -113,8 +113,9 @@ of one machine, and of a busy one.
 - The original's context, date objects and arguments are made beforehand, as are the lists, records and texts that the archive is
   lent. A setter's date is brought to where the call leaves it, so that every call does the same work. The local builder is the
   arithmetic of the original's constructor, without the object. Its host hook looks the zone list up by halving.
-- The original makes a string for each text, and dropping it counts as well; the archive writes into a lent output, which no one
-  clears between calls. The cost of clearing and of making a `String` is said below.
+- The original makes a string for each text, and dropping it counts as well: its strings here are the stand-ins of
+  differential/stubs, one counted allocation each, not Boa's own. The archive writes into a lent output, which no one clears
+  between calls. The cost of clearing and of making a `String` is said below.
 - The archive judges the zone list in every call that takes one, the original never. Judging is timed by itself: an infinite time is
   turned back as soon as the list is judged; the same call without a list is subtracted. Rewriting is compared with the original's
   reading and then writing; it has no bar of its own but 1.
