@@ -6,6 +6,7 @@ mod picture;
 mod report;
 mod rows;
 mod timing;
+mod v8;
 
 use std::process::ExitCode;
 

@@ -19,10 +19,10 @@ struct Line {
 fn lines(run: &Run) -> Vec<Line> {
     let mut lines = Vec::new();
     for group in Group::ALL {
-        let lists = run.judging.iter().map(|(records, cost)| (Some(*records), *cost));
-        for (records, cost) in std::iter::once((None, 0.0)).chain(lists) {
-            let rows: Vec<_> =
-                run.rows.iter().filter(|row| row.group == group && row.judging == cost).collect();
+        let lists = run.judging.iter().map(|(records, _)| Some(*records));
+        for records in std::iter::once(None).chain(lists) {
+            let is_of = |row: &&Row| row.group == group && row.records == records;
+            let rows: Vec<_> = run.rows.iter().filter(is_of).collect();
             if !rows.is_empty() {
                 let list = records.map_or(String::new(), |n| format!(", list of {n}"));
                 lines.push(line(format!("{}{list}", group.name()), group, &rows));

@@ -2,8 +2,8 @@
 
 use std::time::Instant;
 
-/// Rounds of each side. The best round is the one that nothing else disturbed.
-const ROUNDS: usize = 1500;
+/// Rounds of each side in one pass. The best round is the one that nothing else disturbed.
+const ROUNDS: usize = 400;
 
 /// Nanoseconds for each input, the best of many rounds, both sides taking turns.
 pub fn both(inputs: usize, mut ours: impl FnMut(usize), mut theirs: impl FnMut(usize)) -> Pair {

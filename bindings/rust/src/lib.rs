@@ -7,7 +7,7 @@
 //! ```
 //! use zovattha::{ZoneList, ZoneRecord};
 //!
-//! // Central European time of 2024, from its records; see also `tzif::TzFile` and the tool `zonelist`.
+//! // Central European time of 2024, from its records; see also `ZoneList::from_tzif` and the tool `zonelist`.
 //! let house = ZoneList::from_records(&[
 //!     ZoneRecord { second: 1704067200, offset: 3600 },
 //!     ZoneRecord { second: 1711846800, offset: 7200 },

@@ -1,6 +1,8 @@
 //! The zone list: which offset from UTC holds from which second on.
 
+use crate::tzif::{TzFile, TzifError};
 use crate::{Refusal, ffi};
+use std::ops::RangeInclusive;
 
 /// From this second on (since 1970-01-01 UTC) local time is UTC and `offset` seconds.
 #[derive(Clone, Copy, Debug, PartialEq, Eq, Hash)]
@@ -49,6 +51,14 @@ impl ZoneList {
     /// [`Refusal::ZoneList`] where the rule is broken.
     pub fn from_bytes(bytes: &[u8]) -> Result<Self, Refusal> {
         Self::judged(bytes.into())
+    }
+
+    /// The list of a TZif file of the tz database for a span of years: see [`TzFile`].
+    ///
+    /// # Errors
+    /// Where the bytes are no such file, or the file has no list for these years.
+    pub fn from_tzif(file: &[u8], years: RangeInclusive<i64>) -> Result<Self, TzifError> {
+        TzFile::of_bytes(file)?.zone_list(years)
     }
 
     /// The proved code judges: with an empty text, reading is turned back for the list, or for the

@@ -4,7 +4,6 @@ use std::io::{self, Write};
 use std::path::PathBuf;
 use std::process::ExitCode;
 use std::{env, fs};
-use zovattha::tzif::TzFile;
 use zovattha::{Refusal, ZoneList, ZoneRecord};
 
 const USAGE: &str = "\
@@ -40,7 +39,7 @@ fn make(zone: &str, from: &str, to: &str) -> Result<(), Fault> {
     let years = year(from)?..=year(to)?;
     let file = [PathBuf::from(zone), zoneinfo().join(zone)].into_iter().find(|path| path.is_file());
     let file = file.ok_or_else(|| format!("no such zone or file: {zone}"))?;
-    let list = TzFile::of_bytes(&fs::read(file)?)?.zone_list(years)?;
+    let list = ZoneList::from_tzif(&fs::read(file)?, years)?;
     Ok(io::stdout().write_all(list.as_bytes())?)
 }
 

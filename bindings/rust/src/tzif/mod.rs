@@ -93,10 +93,10 @@ impl TzFile {
     /// those of a zone's name) are left out.
     ///
     /// ```no_run
-    /// use zovattha::tzif::TzFile;
+    /// use zovattha::ZoneList;
     ///
     /// let file = std::fs::read("/usr/share/zoneinfo/Europe/Vienna")?;
-    /// let house = TzFile::of_bytes(&file)?.zone_list(2020..=2045)?;
+    /// let house = ZoneList::from_tzif(&file, 2020..=2045)?;
     /// # Ok::<(), Box<dyn std::error::Error>>(())
     /// ```
     ///

@@ -41,7 +41,7 @@ fn made() -> Vec<u8> {
 }
 
 fn list_of(file: &[u8], years: RangeInclusive<i64>) -> Result<Vec<(i64, i32)>, TzifError> {
-    let list = TzFile::of_bytes(file)?.zone_list(years)?;
+    let list = ZoneList::from_tzif(file, years)?;
     Ok(list.records().map(|record| (record.second, record.offset)).collect())
 }
 
