@@ -141,7 +141,7 @@ fn new_day(first: u32, local: bool, zone: &[u8], t: f64, fields: &[u8]) -> u64
     let m = argument(fields, first, 1, y.next, old.month as f64);
     let dt = argument(fields, first, 2, m.next, old.date as f64);
     let new_date = make::make_date(
-        make::make_day(y.value, m.value, dt.value),
+        quick_day::make_day(y.value, m.value, dt.value),
         calendar::time_within_day(t),
     );
     finish(local, zone, new_date)
@@ -204,7 +204,7 @@ pub fn build(local: bool, zone: &[u8], fields: &[u8]) -> Reply
     let yr = make::make_full_year(y.value);
     // Let finalDate be MakeDate(MakeDay(yr, m, dt), MakeTime(h, min, s, milli)).
     let final_date = make::make_date(
-        make::make_day(yr, m.value, dt.value),
+        quick_day::make_day(yr, m.value, dt.value),
         make::make_time(h.value, min.value, s.value, milli.value),
     );
     Reply::Time(finish(local, zone, final_date))
