@@ -13,7 +13,7 @@ use lib.Dec.{T}
 use lib.Signed.{leZ, _≤ℤ_, _<ℤ_, leZ-yes}
 use Rattle.ecma262.proofs.Int.{ints}
 use Rattle.ecma262.proofs.Machine.{le-false}
-use Rattle.zone.specs.Zone.{Record, noRecord, secondOf, offsetOf, IsZoneList, offsetAt}
+use Rattle.zone.specs.Zone.{Record, secondOf, offsetOf, IsZoneList, offsetAt}
 use Rattle.zone.proofs.Offset.{offset-decided}
 use Rattle.zone_records.specs.declared.ZoneRecord.{ZoneRecord}
 use Rattle.zone_records.specs.Slice.{asRecord, asRecords}

@@ -1,6 +1,6 @@
 -- The elements of an array in memory are the first i of them and the rest, both ways, at any share: how the front of an array is lent.
 -- Assumes nothing.
-use mathlib.Core.Path.{_≡_, refl, sym, _∙_}
+use mathlib.Core.Path.{_≡_, refl, sym}
 use mathlib.Core.List.{List, [], _∷_, _++_}
 use Prim.Native.Nat.{ℕ}
 use lib.ListN.{length, take, drop as drop-list, take-append-drop}

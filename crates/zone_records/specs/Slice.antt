@@ -1,7 +1,6 @@
 -- A slice of zone records as the zone list's records, so that the one definition of a lookup, zone's `offsetAt`, is asked of both forms.
 -- Definitions only. Assumes nothing.
 use mathlib.Core.List.{List, map}
-use Prim.Native.Nat.{ℕ}
 use Rattle.zone.specs.Zone.{Record}
 use Rattle.zone_records.specs.declared.ZoneRecord.{ZoneRecord}
 

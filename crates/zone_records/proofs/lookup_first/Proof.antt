@@ -16,7 +16,7 @@ use mir.Syntax.{Ty, named, w32, w64, tyArray}
 use mir.Val.{Val, WT, hasTy, vint, ofZ}
 use mir.ValLaws.{ofZ-fits}
 use base.Logic.{SProp, ent, snd∗, exE, id⊢}
-use base.Fml.{Lft, GName, ftrue, fsep, fat, flft, flent}
+use base.Fml.{GName, ftrue, fsep, fat, flft, flent}
 use prog.Memory.{Memory}
 use prog.Routine.{Routine}
 use prog.Wp.{Heap, Calls, Loops, WpFn, Tables}

@@ -1,14 +1,13 @@
 -- `zone_records::record_at` meets its contract: the second and the offset are the two's complement of 8 and of 4 bytes. Assumes nothing.
-use mathlib.Core.Path.{_≡_, refl, sym, ap, subst, _∙_}
-use Prim.Native.Nat.{_+_, _*_, _^_}
+use mathlib.Core.Path.{refl, sym, ap, subst, _∙_}
+use Prim.Native.Nat.{_^_}
 use native.Mathlib.Omega.{arith}
-use lib.IntN.{ℤ}
 use mir.Syntax.{w32, w64}
-use mir.Val.{SFits, toZ, ofZ}
+use mir.Val.{SFits}
 use mir.ValLaws.{toZ-ofZ}
 use borrow.Author.Needs.{needs}
-use Rattle.zone.specs.Bytes.{littleEndian, signed}
-use Rattle.zone.specs.Zone.{Record, recordAt}
+use Rattle.zone.specs.Bytes.{signed}
+use Rattle.zone.specs.Zone.{recordAt}
 use Rattle.zone.proofs.Numbers.{signed-range}
 use Rattle.zone_records.proofs.record_at.Statement.{statement}
 use Rattle.zone_records.proofs.record_at.Tie as tie

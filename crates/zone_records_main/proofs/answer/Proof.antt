@@ -1,6 +1,5 @@
 -- `zone_records_main::answer` is safe and ends. Assumes nothing.
 use Prim.Native.Nat.{_-_, _≤_}
-use native.Mathlib.Omega.{arith}
 use borrow.Author.Needs.{needs}
 use Rattle.zone_records_main.proofs.answer.Statement.{statement}
 use Rattle.zone_records_main.proofs.answer.Tie as tie
