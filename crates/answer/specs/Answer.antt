@@ -1,4 +1,4 @@
--- The number, the time value and the length of every answer, from the papers' table "Where a call is turned back". Definitions only.
+-- The number, the time value and the length of every answer, from document 01's table "Where a call is turned back". Definitions only.
 -- Assumes nothing.
 use Prim.Native.Nat.{ℕ}
 use Rattle.answer.specs.declared.Refusal.{Refusal}

@@ -2,7 +2,7 @@
 ghost use mathlib.Core.Path.{_≡_};
 ghost use Rattle.answer.specs.Answer.{refusalNumber, replyOf};
 
-// Why a call is turned back: the faults of the papers' table, in its order.
+// Why a call is turned back: the faults of document 01's table, in its order.
 pub enum Refusal {
     // Zone list: length, order or offset outside its rule.
     ZoneList,

@@ -1,6 +1,6 @@
 -- ECMA-262, the texts of dates: Date.prototype.toISOString, Date.prototype.toUTCString and ToDateString with its parts, as lists of ASCII
 -- bytes. Each text is said of calendar fields, and then of a time. A part that the standard names bears its name; the standard's or the
--- papers' words stand above it. Definitions only. Assumes nothing.
+-- document 01's words stand above it. Definitions only. Assumes nothing.
 use mathlib.Core.Bool.{cond}
 use mathlib.Core.List.{List, [], _∷_, _++_}
 use Prim.Native.Nat.{ℕ, suc, _+_, _*_}

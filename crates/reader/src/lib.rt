@@ -209,7 +209,7 @@ pub fn read(zone: &[u8], text: &[u8]) -> Reply
     if !zone::accept(zone) {
         return Reply::Refused(Refusal::ZoneList);
     }
-    match parser::parse(text) {
+    match text_reader::parse_text(text) {
         Parsed::Refused(f) => Reply::Refused(refusal_of(f)),
         Parsed::Read(form) => answer_at(instant_of(zone, form)),
     }

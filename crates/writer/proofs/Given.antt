@@ -6,8 +6,6 @@ use Prim.Native.Nat.{ℕ, _≤_}
 use native.Mathlib.Omega.{arith}
 use lib.IntN.{natAbs}
 use lib.Ieee.{Float}
-use Rattle.ecma262.specs.Date.{InRange}
-use Rattle.ecma262.specs.Domain.{Shown}
 use Rattle.float.specs.Whole.{truncZ}
 use Rattle.parts.specs.Parts.{Takes}
 use Rattle.timevalue.specs.declared.TimeValue.{TimeValue as Given}

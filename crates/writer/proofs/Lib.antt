@@ -2,3 +2,5 @@ pub mod Whole
 pub mod Written
 pub mod Given
 pub mod Local
+pub mod Outcomes
+mod Examples

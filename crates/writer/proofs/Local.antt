@@ -1,5 +1,5 @@
 -- The local time of a time of the range is a whole time that can be taken apart, and the suffix's offset has room in its digits. Assumes nothing.
-use mathlib.Core.Path.{_≡_, refl, sym, ap, subst, _∙_}
+use mathlib.Core.Path.{_≡_, sym, subst, _∙_}
 use mathlib.Core.List.{List}
 use Prim.Native.Nat.{ℕ, _≤_}
 use native.Mathlib.Omega.{arith}
@@ -15,9 +15,9 @@ use Rattle.float.specs.Whole.{IsWhole, truncZ}
 use Rattle.float.proofs.Rounding.{truncZ-whole}
 use Rattle.parts.specs.Parts.{Takes}
 use Rattle.timevalue.specs.TimeValue.{IsTime}
-use Rattle.zone.specs.Zone.{Record, records, Accepted}
+use Rattle.zone.specs.Zone.{Record, IsZoneList, records, Accepted}
 use Rattle.zone.proofs.Offset.{offset-bounded}
-use Rattle.local.specs.Local.{askedSecond, offsetOfInstant, offsetOfSuffix, localTime, localTimeF, offsetSecondsF}
+use Rattle.local.specs.Local.{offsetOfSuffix, localTime, askedSecondF, offsetSecondsF, localTimeF}
 use Rattle.local.proofs.Whole.{offset-whole, local-time-whole, local-time-shown}
 use Rattle.text.specs.Print.{wholeOf}
 use Rattle.text.specs.declared.DateFields.{DateFields}
@@ -25,6 +25,19 @@ use Rattle.writer.specs.Fields.{FieldsAt}
 use Rattle.writer.specs.Writer.{toDateString}
 use Rattle.writer.proofs.Written.{local-of-time}
 
+-- ---- an offset o that an accepted list gives, as the code holds it: in 32 bits
+module _ (list : List Record) (rule : IsZoneList list) (x : Float) {o : ℤ} (looked-up : o ≡ offsetSecondsF list x) where
+  offset-small : natAbs o ≤ 86399
+  unfolding offsetSecondsF
+  offset-small = subst (λ (z : ℤ). natAbs z ≤ 86399) (sym looked-up) (offset-bounded list rule (askedSecondF x))
+
+  offset-kept : toZ w32 (ofZ w32 o) ≡ o
+  offset-kept = kept (fits32 o (omega (arith, abs-in o offset-small)))
+
+  pub offset-fits : natAbs (toZ w32 (ofZ w32 o)) ≤ 86399
+  offset-fits = subst (λ (z : ℤ). natAbs z ≤ 86399) (sym offset-kept) offset-small
+
+-- ---- the local time l of a time t of the range
 wide : (n : ℕ) → n ≤ 8_640_000_000_000_000 → n ≤ 8_999_999_999_999_999
 wide n h = omega arith
 
@@ -44,21 +57,10 @@ module _ (zone : List ℕ) (ok : Accepted zone) {t : Float} (h : IsTime t) {l : 
   pub local-takes : Takes l
   local-takes = record { whole = subst (IsWhole l) (sym local-value) local-whole; shown = subst Shown (sym local-value) local-shown }
 
-  -- the offset o, as the code holds it: in 32 bits
-  module _ {o : ℤ} (at-local : o ≡ offsetSecondsF (records zone) l) where
-    suffix-is : o ≡ offsetOfSuffix (records zone) (localTime (records zone) (truncZ t))
-    unfolding offsetOfSuffix
-    suffix-is = at-local ∙ offset-whole (localTime (records zone) (truncZ t)) (wide-shown _ local-shown) (records zone) local-whole
+  suffix-whole : offsetSecondsF (records zone) l ≡ offsetOfSuffix (records zone) (localTime (records zone) (truncZ t))
+  unfolding offsetOfSuffix
+  suffix-whole = offset-whole (localTime (records zone) (truncZ t)) (wide-shown _ local-shown) (records zone) local-whole
 
-    suffix-small : natAbs o ≤ 86399
-    unfolding offsetOfSuffix offsetOfInstant
-    suffix-small = subst (λ (z : ℤ). natAbs z ≤ 86399) (sym suffix-is) (offset-bounded (records zone) (ok .rule) (askedSecond (localTime (records zone) (truncZ t))))
-
-    suffix-kept : toZ w32 (ofZ w32 o) ≡ o
-    suffix-kept = kept (fits32 o (omega (arith, abs-in o suffix-small)))
-
-    pub suffix-bounded : natAbs (toZ w32 (ofZ w32 o)) ≤ 86399
-    suffix-bounded = subst (λ (z : ℤ). natAbs z ≤ 86399) (sym suffix-kept) suffix-small
-
-    pub local-text : {f : DateFields} → FieldsAt (truncZ l) f → localOf (f .weekday) (wholeOf f) (toZ w32 (ofZ w32 o)) ≡ toDateString (records zone) (truncZ t)
-    local-text f = local-of-time f _ ∙ (λ i. localText (local-value i) ((suffix-kept ∙ suffix-is) i))
+  pub local-text : {o : ℤ} {f : DateFields} → o ≡ offsetSecondsF (records zone) l → FieldsAt (truncZ l) f
+      → localOf (f .weekday) (wholeOf f) (toZ w32 (ofZ w32 o)) ≡ toDateString (records zone) (truncZ t)
+  local-text looked-up f = local-of-time f _ ∙ (λ i. localText (local-value i) ((offset-kept (records zone) (ok .rule) l looked-up ∙ looked-up ∙ suffix-whole) i))

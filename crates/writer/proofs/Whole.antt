@@ -1,6 +1,6 @@
 -- The parts of a whole time are ECMA-262's fields of it, and have room in the printing functions' types. Assumes nothing.
 use mathlib.Core.Path.{_≡_, sym, subst, _∙_}
-use Prim.Native.Nat.{ℕ, _≤_, _<_}
+use Prim.Native.Nat.{_≤_, _<_}
 use native.Mathlib.Omega.{arith}
 use lib.IntN.{ℤ, natAbs}
 use lib.Ieee.{Float}

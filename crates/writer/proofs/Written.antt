@@ -1,14 +1,11 @@
 -- A text printed, or not for want of room, is the outcome of writing it. Assumes nothing.
-use mathlib.Core.Path.{_≡_, sym, ap, subst, _∙_}
-use mathlib.Core.Bool.{Bool, true, false, cond}
-use mathlib.Core.List.{List, _++_}
+use mathlib.Core.Path.{_≡_, ap, subst, _∙_}
+use mathlib.Core.List.{List}
 use Prim.Native.Nat.{ℕ, _≤_, _<_}
-use native.Mathlib.Omega.{arith}
 use lib.IntN.{ℤ}
-use lib.Dec.{ltb, leb, leb→le, nleb→lt}
-use lib.ListN.{length, drop}
+use lib.Dec.{leb, leb→le, nleb→lt}
+use lib.ListN.{length}
 use borrow.Author.Tests.{le-leb, lt-leb, lt-ltb, le-ltb}
-use Rattle.ecma262.specs.Date.{fieldsOf, WeekDay}
 use Rattle.ecma262.specs.Texts.{isoOf, utcOf, localOf, isoText, utcText, localText}
 use Rattle.ecma262.specs.Domain.{Shown}
 use Rattle.ecma262.proofs.Int.{by-test}
@@ -20,7 +17,7 @@ use Rattle.text.specs.declared.Printed.the-variants.{Length, NoRoom}
 use Rattle.text.proofs.Times.{time-printable}
 use Rattle.answer.specs.declared.Reply.{Reply}
 use Rattle.writer.specs.Fields.{FieldsAt, replied}
-use Rattle.writer.specs.Outcome.{Outcome, written, refused, Leaves}
+use Rattle.writer.specs.Outcome.{written, Leaves}
 
 module _ {w out last : List ℕ} {p : Printed} {r : Reply} (value : ℕ) (h : Prints w out last p) (e : r ≡ replied value p) where
   with-room : length w ≤ length out → Leaves (written value w out) r last

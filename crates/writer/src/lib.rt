@@ -47,7 +47,7 @@ fn reply(value: u64, printed: Printed) -> Reply
     }
 }
 
-// The texts of a whole time.
+// The ISO text, and below it the UTC text, of a whole time.
 pub fn write_iso(t: f64, output: &mut [u8]) -> Reply
     requires { ⌜ Takes t ⌝ }
     ensures { λ r. ⌜ Leaves (written (toBits binary64 t) (isoText (truncZ t)) (now (output .entry))) r (now (output .exit)) ⌝ }
@@ -64,15 +64,18 @@ pub fn write_utc(t: f64, output: &mut [u8]) -> Reply
     reply(float::bits_of(t), printed)
 }
 
-// The text of a time of the range under an accepted list. As in the original's `to_date_string_t` the suffix is looked up at the local time.
-pub fn write_local(zone: &[u8], t: f64, output: &mut [u8]) -> Reply
-    requires { ⌜ IsTime t × Accepted (now zone) ⌝ }
-    ensures { λ r. ⌜ Leaves (written (toBits binary64 t) (toDateString (records (now (zone .entry))) (truncZ t)) (now (output .entry))) r (now (output .exit)) ⌝ }
+// ToDateString(tv) of a time of the range, under an accepted list.
+pub fn to_date_string_t(tv: f64, zone: &[u8], output: &mut [u8]) -> Reply
+    requires { ⌜ IsTime tv × Accepted (now zone) ⌝ }
+    ensures { λ r. ⌜ Leaves (written (toBits binary64 tv) (toDateString (records (now (zone .entry))) (truncZ tv)) (now (output .entry))) r (now (output .exit)) ⌝ }
 {
-    let shifted = local::local_time(t, zone);
-    let offset = local::local_timezone_offset_seconds(shifted, zone);
-    let printed = text::local_string(date_fields(shifted), offset, output);
-    reply(float::bits_of(t), printed)
+    // 1. If tv is NaN, return "Invalid Date": `to_string` has tested that.
+    // 2. Let t be LocalTime(tv).
+    let t = local::local_time(tv, zone);
+    // 3. Return DateString(t), SPACE, TimeString(t) and the suffix, which the original looks up at t and the standard at tv.
+    let offset = local::local_timezone_offset_seconds(t, zone);
+    let printed = text::local_string(date_fields(t), offset, output);
+    reply(float::bits_of(tv), printed)
 }
 
 // The text of NaN.
@@ -115,6 +118,6 @@ pub fn to_string(zone: &[u8], time: u64, output: &mut [u8]) -> Reply
     match timevalue::time_value(time) {
         TimeValue::Refused => Reply::Refused(Refusal::TimeValue),
         TimeValue::Nan => write_invalid(output),
-        TimeValue::Time(t) => write_local(zone, t, output),
+        TimeValue::Time(t) => to_date_string_t(t, zone, output),
     }
 }

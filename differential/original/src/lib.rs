@@ -5,6 +5,7 @@
 #![allow(dead_code, unused, unreachable_code, deprecated, clippy::all)]
 
 pub mod doors;
+pub mod timed;
 
 pub mod builtins;
 pub mod context;

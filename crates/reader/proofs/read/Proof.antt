@@ -26,8 +26,8 @@ accept-requires c κs = search needs
 returns : tie.Need-returns
 returns c = list-refused _ _ (sym (c .before .accept .ensures) ∙ not-true _ (c .if1 .taken))
 
-parse-requires : tie.Need-parse-requires
-parse-requires c κs = search needs
+parse-text-requires : tie.Need-parse-text-requires
+parse-text-requires c κs = search needs
 
 enum-known-f : tie.Need-enum-known-f
 enum-known-f c = search needs
@@ -42,7 +42,7 @@ instant-of-requires : tie.Need-instant-of-requires
 instant-of-requires c κs =
     let p = c .before .before .before in (
       accepts-sound _ (accepted (p .before)),
-      read-printed (p .before .before .before .before .before .args .text .now) (asForm (c .before .form .given .0 .0)) (sym (p .parse .ensures) ∙ ap asReading (c .before .form .given .1)) .bounds,
+      read-printed (p .before .before .before .before .before .args .text .now) (asForm (c .before .form .given .0 .0)) (sym (p .parse-text .ensures) ∙ ap asReading (c .before .form .given .1)) .bounds,
     )
 
 answer-at-requires : tie.Need-answer-at-requires
@@ -52,14 +52,14 @@ returns-2 : tie.Need-returns-2
 returns-2 c =
     let p = c .before .before .before .before in
     let f = c .before .before .f .given in
-    ap Refused (c .refusal-of .ensures) ∙ text-refused _ _ (f .0 .0) (accepted (p .before)) (sym (p .parse .ensures) ∙ ap asReading (f .1))
+    ap Refused (c .refusal-of .ensures) ∙ text-refused _ _ (f .0 .0) (accepted (p .before)) (sym (p .parse-text .ensures) ∙ ap asReading (f .1))
 
 returns-3 : tie.Need-returns-3
 returns-3 c =
     let p = c .before .before .before .before .before in
     let f = c .before .before .before .form .given in
     c .answer-at .ensures ∙ ap answerAt (back _ _ (c .before .instant-of .ensures .0))
-    ∙ text-read _ _ (asForm (f .0 .0)) (accepted (p .before)) (sym (p .parse .ensures) ∙ ap asReading (f .1))
+    ∙ text-read _ _ (asForm (f .0 .0)) (accepted (p .before)) (sym (p .parse-text .ensures) ∙ ap asReading (f .1))
 
 pub read-spec : {M : Type 1} → statement M
 read-spec =
@@ -67,7 +67,7 @@ read-spec =
     (tie.spec
     accept-requires
     returns
-    parse-requires
+    parse-text-requires
     enum-known-f
     refusal-of-requires
     enum-known-form

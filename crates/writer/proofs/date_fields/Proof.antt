@@ -1,6 +1,7 @@
 -- `writer::date_fields` meets its contract. Assumes nothing.
 use borrow.Author.Needs.{needs}
 use mathlib.Core.Path.{_∙_}
+use native.Mathlib.Omega.{arith}
 use Rattle.writer.proofs.Whole.{Small, parts-small, whole-fields, whole-weekday, year-back}
 use Rattle.writer.proofs.date_fields.Statement.{statement}
 use Rattle.writer.proofs.date_fields.Tie as tie
@@ -12,25 +13,25 @@ small : (c : tie.After-parts-of) → Small (c .parts-of .result)
 small c = parts-small (c .before .pre) (c .parts-of .ensures)
 
 cast-t3 : tie.Need-cast-t3
-cast-t3 c = record { fits = small (c .before) .month }
+cast-t3 c = omega (arith, small (c .before))
 
 cast-t4 : tie.Need-cast-t4
-cast-t4 c = record { fits = small (c .before .before) .date }
+cast-t4 c = omega (arith, small (c .before .before))
 
 cast-t5 : tie.Need-cast-t5
-cast-t5 c = record { fits = small (c .before .before .before) .hour }
+cast-t5 c = omega (arith, small (c .before .before .before))
 
 cast-t6 : tie.Need-cast-t6
-cast-t6 c = record { fits = small (c .before .before .before .before) .minute }
+cast-t6 c = omega (arith, small (c .before .before .before .before))
 
 cast-t7 : tie.Need-cast-t7
-cast-t7 c = record { fits = small (c .before .before .before .before .before) .second }
+cast-t7 c = omega (arith, small (c .before .before .before .before .before))
 
 cast-t8 : tie.Need-cast-t8
-cast-t8 c = record { fits = small (c .before .before .before .before .before .before) .weekday }
+cast-t8 c = omega (arith, small (c .before .before .before .before .before .before))
 
 cast-t9 : tie.Need-cast-t9
-cast-t9 c = record { fits = small (c .before .before .before .before .before .before .before) .ms }
+cast-t9 c = omega (arith, small (c .before .before .before .before .before .before .before))
 
 returns : tie.Need-returns
 returns c =

@@ -35,8 +35,8 @@ write-invalid-requires c κs = search needs
 enum-known-t : tie.Need-enum-known-t
 enum-known-t c = search needs
 
-write-local-requires : tie.Need-write-local-requires
-write-local-requires c κs =
+to-date-string-t-requires : tie.Need-to-date-string-t-requires
+to-date-string-t-requires c κs =
     let a = c .before .before in
     let v = a .before .before in
     (time-is _ (v .time-value .ensures) (a .t .given .1), accepts-sound _ (accepted (v .before)))
@@ -64,7 +64,7 @@ returns-4 c =
     let w = c .before .before in
     let a = w .before .before .before in
     let v = a .before .before in
-    local-given _ (accepted (v .before)) _ _ (v .time-value .ensures) (a .t .given .1) (w .write-local .ensures)
+    local-given _ (accepted (v .before)) _ _ (v .time-value .ensures) (a .t .given .1) (w .to-date-string-t .ensures)
 
 pub to-string-spec : {M : Type 1} → statement M
 to-string-spec =
@@ -77,7 +77,7 @@ to-string-spec =
     enum-told-2
     write-invalid-requires
     enum-known-t
-    write-local-requires
+    to-date-string-t-requires
     returns-2
     same-length
     returns-3

@@ -1,13 +1,13 @@
--- `writer::write_local` meets its contract. Assumes nothing.
+-- `writer::to_date_string_t` meets its contract. Assumes nothing.
 use borrow.Author.Needs.{needs}
 use mathlib.Core.Path.{ap, _∙_}
 use Prim.Native.Nat.{ℕ}
 use denote.Ref.{now}
 use Rattle.writer.specs.Fields.{replied}
 use Rattle.writer.proofs.Written.{prints-leaves, prints-as, fields-printable}
-use Rattle.writer.proofs.Local.{local-takes, suffix-bounded, local-text}
-use Rattle.writer.proofs.write_local.Statement.{statement}
-use Rattle.writer.proofs.write_local.Tie as tie
+use Rattle.writer.proofs.Local.{offset-fits, local-takes, local-text}
+use Rattle.writer.proofs.to_date_string_t.Statement.{statement}
+use Rattle.writer.proofs.to_date_string_t.Tie as tie
 
 local-time-requires : tie.Need-local-time-requires
 local-time-requires c κs = search needs
@@ -27,7 +27,7 @@ local-string-requires c κs =
     let l = o .before in
     let s = l .before .before .before in (
       fields-printable (c .before .date-fields .ensures) (local-takes (now (s .args .zone)) (s .pre .1) (s .pre .0) (l .local-time .ensures) .shown),
-      suffix-bounded (now (s .args .zone)) (s .pre .1) (s .pre .0) (l .local-time .ensures) (o .local-timezone-offset-seconds .ensures),
+      offset-fits _ (s .pre .1 .rule) _ (o .local-timezone-offset-seconds .ensures),
     )
 
 bits-of-requires : tie.Need-bits-of-requires
@@ -50,8 +50,8 @@ returns c =
     (prints-as (local-text (now (s .args .zone)) (s .pre .1) (s .pre .0) (l .local-time .ensures) (o .local-timezone-offset-seconds .ensures) (f .date-fields .ensures)) (p .local-string .ensures))
     (c .reply .ensures ∙ ap (λ (v : ℕ). replied v (p .local-string .result)) (c .before .bits-of .ensures))
 
-pub write-local-spec : {M : Type 1} → statement M
-write-local-spec =
+pub to-date-string-t-spec : {M : Type 1} → statement M
+to-date-string-t-spec =
     tie.close
     (tie.spec
     local-time-requires

@@ -1,0 +1,31 @@
+//! One run over both sides: the proved archive through its C functions, the original unchanged.
+//! Answers are compared before they are timed. Prints the table; `--keep` writes it to docs/.
+
+mod inputs;
+mod picture;
+mod report;
+mod rows;
+mod timing;
+mod v8;
+
+use std::process::ExitCode;
+
+fn main() -> ExitCode {
+    let keep = match std::env::args().skip(1).collect::<Vec<_>>().as_slice() {
+        [] => false,
+        [word] if word == "--keep" => true,
+        _ => {
+            eprintln!("bench [--keep]");
+            return ExitCode::FAILURE;
+        }
+    };
+    let run = rows::run();
+    let table = report::table(&run);
+    print!("{table}");
+    if keep {
+        std::fs::create_dir_all("docs").expect("docs/ can be made");
+        std::fs::write("docs/BENCH.md", report::page(&table)).expect("docs/BENCH.md is written");
+        std::fs::write("docs/bench.svg", picture::svg(&run)).expect("docs/bench.svg is written");
+    }
+    ExitCode::SUCCESS
+}

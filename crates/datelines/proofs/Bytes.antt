@@ -1,0 +1,84 @@
+-- What one byte of the input prints and leaves open, by cases; and the chunk so far, with a byte more. Assumes nothing.
+use mathlib.Core.Path.{_≡_, refl, sym, ap, ap₂, _∙_, subst}
+use mathlib.Core.Bool.{Bool, true, false, cond}
+use mathlib.Core.List.{List, [], _∷_, _++_}
+use Prim.Native.Nat.{ℕ, suc, _+_, _*_, _≤_, _<_}
+use native.Mathlib.Omega.{arith}
+use native.Mathlib.Numerals.{add-one}
+use borrow.Author.Tests.{eq-eqb, ne-eqb, lt-ltb, le-ltb}
+use lib.Dec.{ltb, eqb}
+use lib.ListN.{length, take, set, getD}
+use lib.Seq.{length-take-le, take-suc-set, take-suc, take-all}
+use Rattle.datelines.specs.Lines.{lineOf, behind, prints, emitted, left, Puts}
+use Rattle.datelines.specs.Fed.{Feeds}
+use Rattle.datelines.specs.declared.Fed.{Fed}
+use Rattle.datelines.proofs.Runs.{none, puts-as, puts-then}
+use Rattle.datelines.proofs.Streams.{left-snoc, emitted-snoc, emitted-length, prints-length}
+
+-- ---- a newline ends the line
+pub ends : (line : List ℕ) (b : ℕ) → b ≡ 10 → lineOf line ≡ prints line b
+unfolding prints
+ends line b e = rw (eq-eqb b 10 e)
+
+pub begins : (line : List ℕ) (b : ℕ) → b ≡ 10 → [] ≡ behind line b
+unfolding behind
+begins line b e = rw (eq-eqb b 10 e)
+
+-- what a byte prints has room in 64 bytes
+pub byte-room : (line : List ℕ) (b : ℕ) {out : List ℕ} {at n : ℕ} {last : List ℕ} → Puts out at (prints line b) n last → n ≤ at + 64
+byte-room line b p = omega (arith, p .next-is, prints-length line b)
+
+-- ---- another byte is kept, or not
+module _ (line : List ℕ) (kept b : ℕ) (other : b ≡ 10 → ⊥) (long : length line ≡ 33) (few : kept ≤ 33) where
+  silent : [] ≡ prints (take kept line) b
+  unfolding prints
+  silent = rw (ne-eqb b 10 other)
+
+  count : length (take kept line) ≡ kept
+  count = length-take-le kept line (omega arith)
+
+  pub keeps : kept < 33 → take (kept + 1) (set line kept b) ≡ behind (take kept line) b
+  unfolding behind
+  keeps h = rw (ne-eqb b 10 other, count, lt-ltb kept 33 h, add-one) (take-suc-set line kept b (omega arith))
+
+  pub drops : 33 ≤ kept → take kept line ≡ behind (take kept line) b
+  unfolding behind
+  drops h = rw (ne-eqb b 10 other, count, le-ltb kept 33 h)
+
+  pub quiet : {out : List ℕ} {at : ℕ} → Puts out at (prints (take kept line) b) at out
+  quiet = puts-as none silent
+
+-- ---- the chunk: from its first i bytes to the next
+module _ (chunk begun out : List ℕ) (at : ℕ) where
+  pub start : Puts out at (emitted begun (take 0 chunk)) at out
+  unfolding emitted
+  start = none
+
+  pub start-open : begun ≡ left begun (take 0 chunk)
+  unfolding left
+  start-open = refl
+
+  pub all-puts : {i n : ℕ} {last : List ℕ} → length chunk ≤ i → Puts out at (emitted begun (take i chunk)) n last → Puts out at (emitted begun chunk) n last
+  all-puts {i} h p = puts-as p (ap (emitted begun) (take-all i chunk h))
+
+  pub all-open : {i : ℕ} {l : List ℕ} → length chunk ≤ i → l ≡ left begun (take i chunk) → l ≡ left begun chunk
+  all-open {i} h e = e ∙ ap (left begun) (take-all i chunk h)
+
+  module _ {i : ℕ} (more : i < length chunk) where
+    next-part : take (i + 1) chunk ≡ take i chunk ++ (getD chunk i 0 ∷ [])
+    next-part = rw add-one (take-suc chunk i 0 more)
+
+    pub more-puts : {n m : ℕ} {line o last : List ℕ} → line ≡ left begun (take i chunk) → Puts out at (emitted begun (take i chunk)) n o → Puts o n (prints line (getD chunk i 0)) m last
+        → Puts out at (emitted begun (take (i + 1) chunk)) m last
+    more-puts {n} {m} {line} {o} {last} e p q =
+        puts-as (puts-then p (subst (λ (l : List ℕ). Puts o n (prints l (getD chunk i 0)) m last) e q) refl)
+        (sym (ap (emitted begun) next-part ∙ emitted-snoc begun (take i chunk) (getD chunk i 0)))
+
+    pub more-open : {line l : List ℕ} → line ≡ left begun (take i chunk) → l ≡ behind line (getD chunk i 0) → l ≡ left begun (take (i + 1) chunk)
+    more-open e f = f ∙ ap (λ (l : List ℕ). behind l (getD chunk i 0)) e ∙ sym (ap (left begun) next-part ∙ left-snoc begun (take i chunk) (getD chunk i 0))
+
+  pub puts-room : {i n : ℕ} {last : List ℕ} → i ≤ length chunk → Puts out at (emitted begun (take i chunk)) n last → n ≤ at + 64 * i
+  puts-room {i} h p = omega (arith, p .next-is, emitted-length begun (take i chunk), length-take-le i chunk h)
+
+  pub chunk-room : {n : ℕ} {last : List ℕ} → Puts out at (emitted begun chunk) n last → n ≤ at + 64 * length chunk
+  chunk-room p = omega (arith, p .next-is, emitted-length begun chunk)

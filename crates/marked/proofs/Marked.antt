@@ -1,0 +1,29 @@
+-- THE THEOREM of document 01's table "Marked to be proved", "checked together, as one fact about the definitions over the whole table":
+-- every row passes, computed by the checker from the definitions. Assumes nothing.
+use lib.Dec.{T}
+use lib.Count.{ones}
+use lib.Ieee.{span, climb, size, odd, units, round, neg, sum, add, sub, mul, div, rem, lt, eq, le, ne, ofInt, toUnsigned, toSigned, isNan, ofFields, ofBits, toBits}
+use Rattle.ecma262.specs.Date.{DaysInYear, DayFromYear, YearFromTime, monthOf, dateOf, daysBefore, MakeDay}
+use Rattle.ecma262.specs.Texts.{isoYear, dayName, monthName, paddedYear, yearSign, offsetSign}
+use Rattle.float.specs.Rounding.{withSign, isNegative, truncF, floorF, absF, copysignF, remEuclidF, toIntegerOrInfinity}
+use Rattle.float.specs.Whole.{floorZ, truncZ}
+use Rattle.calendar.specs.Calendar.{dayF, timeWithinDayF, daysInYearF, dayFromYearF, timeFromYearF, wrap32, yearEstimateF, yearFromTimeF, dayWithinYearF, inLeapYearF, monthFromTimeF, dateFromTimeF}
+use Rattle.make.specs.Make.{yearOfMonth, monthOfYear, monthStartF, dayOfMonthF, makeDayF, makeDateF, timeClipF}
+use Rattle.zone.specs.Bytes.{littleEndian, signed}
+use Rattle.zone.specs.Zone.{recordAt, records, isZoneList, accepts, decides, offsetAt}
+use Rattle.local.specs.Local.{askedSecond, offsetOfInstant, offsetOfLocal, offsetOfSuffix, localTime, utcTime, askedSecondF, offsetSecondsF, localTimeF, utcF}
+use Rattle.timevalue.specs.TimeValue.{isTime, timeValueOf}
+use Rattle.field_record.specs.FieldRecord.{hasLength, hasOtherBit, placeOf, fieldAt, fieldOr}
+use Rattle.parser.specs.Reading.{after, give, choose, byte, digitsAfter, within, signedYear, readYear, readDay, readDate, readDecimals, readSecond, readTime, readOffsetMinute, readOffset, readZone, ending, timePart, rest, read}
+use Rattle.reader.specs.Denotes.{fieldsTime, instantOf}
+use Rattle.reader.specs.Outcome.{answerAt, readOutcome}
+use Rattle.writer.specs.Outcome.{written}
+use Rattle.writer.specs.Writer.{isoOutcome, utcOutcome, localOutcome}
+use Rattle.rewrite.specs.Rewrite.{rewriteOutcome}
+use Rattle.fields.specs.Calls.{absent, newDate, valueFrom, valueOfNan}
+use Rattle.fields.specs.Outcome.{setOutcome}
+use Rattle.marked.specs.Table.{Row, rows, right, every}
+
+pub marked-rows : T (every rows)
+unfolding every right ones floorZ span climb size odd units round neg sum add sub mul div rem lt eq le ne ofInt toUnsigned toSigned isNan ofFields ofBits toBits DaysInYear DayFromYear YearFromTime monthOf dateOf daysBefore MakeDay isoYear dayName monthName paddedYear yearSign offsetSign withSign isNegative truncF floorF absF copysignF remEuclidF toIntegerOrInfinity truncZ dayF timeWithinDayF daysInYearF dayFromYearF timeFromYearF wrap32 yearEstimateF yearFromTimeF dayWithinYearF inLeapYearF monthFromTimeF dateFromTimeF yearOfMonth monthOfYear monthStartF dayOfMonthF makeDayF makeDateF timeClipF littleEndian signed recordAt records isZoneList accepts decides offsetAt askedSecond offsetOfInstant offsetOfLocal offsetOfSuffix localTime utcTime askedSecondF offsetSecondsF localTimeF utcF isTime timeValueOf hasLength hasOtherBit placeOf fieldAt fieldOr after give choose byte digitsAfter within signedYear readYear readDay readDate readDecimals readSecond readTime readOffsetMinute readOffset readZone ending timePart rest read fieldsTime instantOf answerAt readOutcome written isoOutcome utcOutcome localOutcome rewriteOutcome absent newDate valueFrom valueOfNan setOutcome
+marked-rows = tt

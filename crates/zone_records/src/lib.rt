@@ -1,0 +1,88 @@
+// The zone list as "a lent run of records, each a second and an offset": a slice of records, searched as the bytes are, through one definition.
+ghost use mathlib.Core.Path.{_≡_};
+ghost use Prim.Native.Nat.{ℕ, _+_, _*_, _-_, _/_, _^_, _<_, _≤_};
+ghost use lib.ListN.{length, take};
+ghost use Rattle.zone.specs.Bytes.{signed};
+ghost use Rattle.zone.specs.Zone.{recordAt, records, IsZoneList, Accepted, offsetAt};
+ghost use Rattle.zone_records.specs.Slice.{asRecord, asRecords};
+
+pub struct ZoneRecord {
+    pub second: i64,
+    pub offset: i32,
+}
+
+// The offset that a slice of records gives at a second, by halving: `low` is the first record or not after `second`, and from `high` on
+// every record is after it.
+pub fn lookup(zone: &[ZoneRecord], second: i64) -> i32
+    requires { ⌜ IsZoneList (asRecords (now zone)) ⌝ }
+    ensures { λ r. ⌜ r ≡ offsetAt (asRecords (now (zone .entry))) second ⌝ }
+{
+    let mut low = 0;
+    let mut high = zone.len();
+    while low + 1 < high {
+        let middle = (low + high) / 2;
+        if zone[middle].second <= second {
+            low = middle;
+        } else {
+            high = middle;
+        }
+    }
+    zone[low].offset
+}
+
+// The first `n` records of an array: from plain values to a slice and back, so that no caller has a walk.
+pub fn lookup_first(all: [ZoneRecord; 1024], n: usize, second: i64) -> i32
+    requires { ⌜ (n ≤ 1024) × IsZoneList (asRecords (take n all)) ⌝ }
+    ensures { λ r. ⌜ r ≡ offsetAt (asRecords (take n all)) second ⌝ }
+{
+    lookup(&all[..n], second)
+}
+
+// Two's complement, over the width: `half` is the first number that stands for one below zero.
+fn signed(x: u64, half: u64) -> i64
+    requires { ⌜ (half ≤ 2 ^ 63) × ((0 < half) × (x < half + half)) ⌝ }
+    ensures { λ r. ⌜ ((bits : ℕ) → 2 ^ (bits - 1) ≡ half → 2 ^ bits ≡ half + half → r ≡ signed bits x) ⌝ }
+{
+    if x < half {
+        x as i64
+    } else {
+        -1 - ((half - 1 - (x - half)) as i64)
+    }
+}
+
+// Record i of bytes.
+fn record_at(zone: &[u8], i: usize) -> ZoneRecord
+    requires { ⌜ 12 * i + 12 ≤ length (now zone) ⌝ }
+    ensures { λ r. ⌜ asRecord r ≡ recordAt (now (zone .entry)) i ⌝ }
+{
+    ZoneRecord {
+        second: signed(zone::u64_at(zone, 12 * i), 0x8000_0000_0000_0000),
+        offset: signed(zone::u32_at(zone, 12 * i + 8) as u64, 0x8000_0000) as i32,
+    }
+}
+
+// The records of an accepted list, at the front of an array that holds the longest list.
+fn decode(zone: &[u8]) -> [ZoneRecord; 1024]
+    requires { ⌜ Accepted (now zone) ⌝ }
+    ensures { λ r. ⌜ asRecords (take (length (now (zone .entry)) / 12) r) ≡ records (now (zone .entry)) ⌝ }
+{
+    let n = zone.len() / 12;
+    let none = ZoneRecord {
+        second: 0,
+        offset: 0,
+    };
+    let mut all = [none; 1024];
+    let mut i = 0;
+    while i < n {
+        all[i] = record_at(zone, i);
+        i += 1;
+    }
+    all
+}
+
+pub fn lookup_records(zone: &[u8], second: i64) -> i32
+    requires { ⌜ Accepted (now zone) ⌝ }
+    ensures { λ r. ⌜ r ≡ offsetAt (records (now (zone .entry))) second ⌝ }
+{
+    lookup_first(decode(zone), zone.len() / 12, second)
+}
