@@ -26,35 +26,37 @@ use Rattle.answer.specs.declared.Refusal.{Refusal}
 use Rattle.answer.specs.declared.Refusal.the-variants as fault
 use Rattle.answer.specs.declared.Reply.{Reply}
 use Rattle.answer.specs.declared.Reply.the-variants as reply
-use Rattle.fields.specs.Calls.{Call, build, bitsOf, shiftIn, valueFrom, valueOfNan, valueOf}
+use Rattle.calendar.specs.Calendar.{num}
+use Rattle.fields.specs.Calls.{Call, build, setMilliseconds, setSeconds, setMinutes, setHours, setDate, setMonth, setFullYear, bitsOf, shiftIn, valueFrom, valueOfNan, valueOf}
 use Rattle.fields.specs.Outcome.{isRefused, timeReply, buildOutcome, setOutcome}
 use Rattle.fields.specs.Standard.{shiftInZ}
-use Rattle.fields.specs.Steps.{startOf, started, Ready}
+use Rattle.fields.specs.Steps.{nanStart, startOf, started, Ready}
+use Rattle.fields.proofs.Setters.{zero-takes}
 use Rattle.fields.specs.declared.Start.{Start}
 use Rattle.fields.specs.declared.Start.the-variants.{From, Nan, Refused}
 
 -- ---- the rows of a setter
-module _ (bits : ℕ) (local : Bool) (zone : List ℕ) (time : ℕ) (fields : List ℕ) where
-  pub zone-row : (local && not (accepts zone)) ≡ true → Refused fault.ZoneList ≡ started bits local zone time fields
+module _ (call : Call) (local : Bool) (zone : List ℕ) (time : ℕ) (fields : List ℕ) where
+  pub zone-row : (local && not (accepts zone)) ≡ true → Refused fault.ZoneList ≡ started call local zone time fields
   unfolding started
   zone-row a = rw a
 
   module _ (a : (local && not (accepts zone)) ≡ false) where
-    pub time-row : isRefused (timeValueOf time) ≡ true → Refused fault.TimeValue ≡ started bits local zone time fields
+    pub time-row : isRefused (timeValueOf time) ≡ true → Refused fault.TimeValue ≡ started call local zone time fields
     unfolding started
     time-row b = rw (a, b)
 
     module _ (b : isRefused (timeValueOf time) ≡ false) where
-      pub length-row : hasLength fields ≡ false → Refused fault.RecordLength ≡ started bits local zone time fields
+      pub length-row : hasLength fields ≡ false → Refused fault.RecordLength ≡ started call local zone time fields
       unfolding started
       length-row d = rw (a, b, d)
 
       module _ (d : hasLength fields ≡ true) where
-        pub map-row : hasOtherBit bits fields ≡ true → Refused fault.RecordMap ≡ started bits local zone time fields
+        pub map-row : hasOtherBit (bitsOf call) fields ≡ true → Refused fault.RecordMap ≡ started call local zone time fields
         unfolding started
         map-row e = rw (a, b, d, e)
 
-        pub start-row : hasOtherBit bits fields ≡ false → startOf local zone (timeValueOf time) ≡ started bits local zone time fields
+        pub start-row : hasOtherBit (bitsOf call) fields ≡ false → startOf call local zone (timeValueOf time) ≡ started call local zone time fields
         unfolding started
         start-row e = rw (a, b, d, e)
 
@@ -90,11 +92,22 @@ listed false zone a l = absurd (false≢true l)
 -- ---- a setter's outcome is that of its start
 abbrev pub answered : Call → Bool → List ℕ → List ℕ → Start → Reply
 answered call local zone fields (From t) = timeReply (valueFrom call local (records zone) t fields)
-answered call local zone fields Nan = timeReply (valueOfNan call local (records zone) fields)
+answered call local zone fields Nan = timeReply nan
 answered call local zone fields (Refused f) = reply.Refused f
 
+nan-answered : (call : Call) (local : Bool) (zone fields : List ℕ) → answered call local zone fields (nanStart call) ≡ timeReply (valueOfNan call local (records zone) fields)
+unfolding valueOfNan
+nan-answered build local zone fields = refl
+nan-answered setMilliseconds local zone fields = refl
+nan-answered setSeconds local zone fields = refl
+nan-answered setMinutes local zone fields = refl
+nan-answered setHours local zone fields = refl
+nan-answered setDate local zone fields = refl
+nan-answered setMonth local zone fields = refl
+nan-answered setFullYear local zone fields = refl
+
 pub set-by-start : (call : Call) (local : Bool) (zone : List ℕ) (time : ℕ) (fields : List ℕ)
-    → answered call local zone fields (started (bitsOf call) local zone time fields) ≡ setOutcome call local zone time fields
+    → answered call local zone fields (started call local zone time fields) ≡ setOutcome call local zone time fields
 unfolding started setOutcome
 set-by-start call local zone time fields = go (local && not (accepts zone)) (hasLength fields) (hasOtherBit (bitsOf call) fields) (timeValueOf time)
   where
@@ -103,7 +116,7 @@ set-by-start call local zone time fields = go (local && not (accepts zone)) (has
         (cond a (Refused fault.ZoneList)
         (cond (isRefused v) (Refused fault.TimeValue)
         (cond (not d) (Refused fault.RecordLength)
-        (cond e (Refused fault.RecordMap) (startOf local zone v)))))
+        (cond e (Refused fault.RecordMap) (startOf call local zone v)))))
         ≡ cond a (reply.Refused fault.ZoneList)
         (cond (isRefused v) (reply.Refused fault.TimeValue)
         (cond (not d) (reply.Refused fault.RecordLength)
@@ -115,7 +128,7 @@ set-by-start call local zone time fields = go (local && not (accepts zone)) (has
     go false true false (given.Time t) = refl
     go false false e given.Nan = refl
     go false true true given.Nan = refl
-    go false true false given.Nan = refl
+    go false true false given.Nan = nan-answered call local zone fields
 
 -- ---- past the rows
 
@@ -131,55 +144,59 @@ start-takes local zone x t l k =
     let e : shiftInZ local (records zone) (truncZ t) ≡ truncZ (shiftIn local (records zone) t) = sym (truncZ-whole (s .0)) in
     record { whole = subst (IsWhole (shiftIn local (records zone) t)) e (s .0); shown = subst Shown e (s .1) }
 
--- what holds of a start that is no refusal
-pub record Passed (local : Bool) (zone : List ℕ) (time : ℕ) (fields : List ℕ) (s : Start) : Type 0 where
+nan-takes : (call : Call) (t : Float) → nanStart call ≡ From t → Takes t
+nan-takes setFullYear t e = let same : num 0 ≡ t = cc in subst Takes same zero-takes
+nan-takes build t e = let z : _≡_ {A = ℕ} 0 1 = cc in absurd (omega arith)
+nan-takes setMilliseconds t e = let z : _≡_ {A = ℕ} 0 1 = cc in absurd (omega arith)
+nan-takes setSeconds t e = let z : _≡_ {A = ℕ} 0 1 = cc in absurd (omega arith)
+nan-takes setMinutes t e = let z : _≡_ {A = ℕ} 0 1 = cc in absurd (omega arith)
+nan-takes setHours t e = let z : _≡_ {A = ℕ} 0 1 = cc in absurd (omega arith)
+nan-takes setDate t e = let z : _≡_ {A = ℕ} 0 1 = cc in absurd (omega arith)
+nan-takes setMonth t e = let z : _≡_ {A = ℕ} 0 1 = cc in absurd (omega arith)
+
+-- what holds of a start from t
+pub record Passed (call : Call) (local : Bool) (zone : List ℕ) (time : ℕ) (t : Float) (fields : List ℕ) : Type 0 where
   pub filled : hasLength fields ≡ true
   pub list : local ≡ true → Accepted zone
-  pub same : s ≡ startOf local zone (timeValueOf time)
+  pub same : From t ≡ startOf call local zone (timeValueOf time)
 
-abbrev Open : Bool → List ℕ → ℕ → List ℕ → Start → Type 0
-Open local zone time fields (From t) = Passed local zone time fields (From t)
-Open local zone time fields Nan = Passed local zone time fields Nan
-Open local zone time fields (Refused f) = Unit {0}
+abbrev Open : Call → Bool → List ℕ → ℕ → List ℕ → Start → Type 0
+Open call local zone time fields (From t) = Passed call local zone time t fields
+Open call local zone time fields Nan = Unit {0}
+Open call local zone time fields (Refused f) = Unit {0}
 
-opened : (bits : ℕ) (local : Bool) (zone : List ℕ) (time : ℕ) (fields : List ℕ) → Open local zone time fields (started bits local zone time fields)
+opened : (call : Call) (local : Bool) (zone : List ℕ) (time : ℕ) (fields : List ℕ) → Open call local zone time fields (started call local zone time fields)
 unfolding started
-opened bits local zone time fields = go (local && not (accepts zone)) (isRefused (timeValueOf time)) (hasLength fields) (hasOtherBit bits fields) refl refl
+opened call local zone time fields = go (local && not (accepts zone)) (isRefused (timeValueOf time)) (hasLength fields) (hasOtherBit (bitsOf call) fields) refl refl
   where
-    last : (s : Start) → startOf local zone (timeValueOf time) ≡ s → hasLength fields ≡ true → (local ≡ true → Accepted zone) → Open local zone time fields s
+    last : (s : Start) → startOf call local zone (timeValueOf time) ≡ s → hasLength fields ≡ true → (local ≡ true → Accepted zone) → Open call local zone time fields s
     last (From t) q d l = record { filled = d; list = l; same = sym q }
-    last Nan q d l = record { filled = d; list = l; same = sym q }
+    last Nan q d l = tt
     last (Refused f) q d l = tt
 
     go : (a b d e : Bool) → (local && not (accepts zone)) ≡ a → hasLength fields ≡ d
-        → Open local zone time fields
+        → Open call local zone time fields
         (cond a (Refused fault.ZoneList)
         (cond b (Refused fault.TimeValue)
         (cond (not d) (Refused fault.RecordLength)
-        (cond e (Refused fault.RecordMap) (startOf local zone (timeValueOf time))))))
+        (cond e (Refused fault.RecordMap) (startOf call local zone (timeValueOf time))))))
     go true b d e p q = tt
     go false true d e p q = tt
     go false false false e p q = tt
     go false false true true p q = tt
-    go false false true false p q = last (startOf local zone (timeValueOf time)) refl q (listed local zone p)
+    go false false true false p q = last (startOf call local zone (timeValueOf time)) refl q (listed local zone p)
 
-module _ (bits : ℕ) (local : Bool) (zone : List ℕ) (time : ℕ) (fields : List ℕ) where
-  pub passed-from : (t : Float) → started bits local zone time fields ≡ From t → Passed local zone time fields (From t)
-  passed-from t e = subst (Open local zone time fields) e (opened bits local zone time fields)
+module _ (call : Call) (local : Bool) (zone : List ℕ) (time : ℕ) (fields : List ℕ) (t : Float) (e : started call local zone time fields ≡ From t) where
+  pub passed : Passed call local zone time t fields
+  passed = subst (Open call local zone time fields) e (opened call local zone time fields)
 
-  pub passed-nan : started bits local zone time fields ≡ Nan → Passed local zone time fields Nan
-  passed-nan e = subst (Open local zone time fields) e (opened bits local zone time fields)
-
-  pub ready : (t : Float) → started bits local zone time fields ≡ From t → Ready local zone t fields
-  ready t e = go (judge time)
+  pub ready : Ready t fields
+  ready = record { time = go (judge time); filled = passed .filled }
     where
-      p : Passed local zone time fields (From t)
-      p = passed-from t e
-
-      go : Judged time → Ready local zone t fields
+      go : Judged time → Takes t
       go (is-time u q k) =
-          let same : From t ≡ From (shiftIn local (records zone) u) = p .same ∙ ap (startOf local zone) q in
+          let same : From t ≡ From (shiftIn local (records zone) u) = passed .same ∙ ap (startOf call local zone) q in
           let at : shiftIn local (records zone) u ≡ t = cc in
-          record { time = subst Takes at (start-takes local zone _ u (p .list) k); filled = p .filled; list = p .list }
-      go (is-nan q k) = let same : From t ≡ Nan = p .same ∙ ap (startOf local zone) q in let z : _≡_ {A = ℕ} 0 1 = cc in absurd (omega arith)
-      go (is-refused q j k) = let same : From t ≡ Refused fault.TimeValue = p .same ∙ ap (startOf local zone) q in let z : _≡_ {A = ℕ} 0 1 = cc in absurd (omega arith)
+          subst Takes at (start-takes local zone _ u (passed .list) k)
+      go (is-nan q k) = nan-takes call t (sym (passed .same ∙ ap (startOf call local zone) q))
+      go (is-refused q j k) = let same : From t ≡ Refused fault.TimeValue = passed .same ∙ ap (startOf call local zone) q in let z : _≡_ {A = ℕ} 0 1 = cc in absurd (omega arith)

@@ -1,9 +1,9 @@
--- The two bodies of the setters give each call's own line: with the arguments from a field on, the new date of the clock or of the day is that
+-- The one body of the setters gives each call's own line: with the arguments from a field on, the new date of the day or of the clock is that
 -- of the setter whose first argument that field is. Assumes nothing.
 use mathlib.Core.Path.{_≡_, refl, sym, ap, _∙_, subst}
 use mathlib.Core.Bool.{Bool, true}
 use mathlib.Core.List.{List}
-use Prim.Native.Nat.{ℕ, zero, suc, _-_, _<_}
+use Prim.Native.Nat.{ℕ, zero, suc, _-_, _≤_, _<_}
 use native.Mathlib.Omega.{arith}
 use lib.Dec.{lit≤}
 use lib.ListN.{getD}
@@ -15,28 +15,48 @@ use Rattle.float.specs.Whole.{IsWhole, truncZ}
 use Rattle.float.proofs.Rounding.{truncZ-whole}
 use Rattle.calendar.proofs.Whole.{num-whole}
 use Rattle.make.specs.Make.{makeTimeF, makeDayF, makeDateF}
-use Rattle.zone.specs.Zone.{Record}
 use Rattle.parts.specs.Parts.{Takes}
 use Rattle.field_record.specs.FieldRecord.{hasLength, placeOf, IsPlace}
 use Rattle.field_record.proofs.Laws.{first-place}
 use Rattle.answer.proofs.Nan.{nan-bits}
 use Rattle.answer.specs.declared.Reply.{Reply}
 use Rattle.answer.specs.declared.Reply.the-variants.{Time}
-use Rattle.fields.specs.Calls.{yearNow, monthNow, dateNow, hourNow, minuteNow, secondNow, msNow, absent, argument, newDate, bitsOf, valueOfNan}
+use Rattle.fields.specs.Calls.{Call, build, setMilliseconds, setSeconds, setMinutes, setHours, setDate, setMonth, setFullYear, yearNow, monthNow, dateNow, hourNow, minuteNow, secondNow, msNow, absent, newDate, bitsOf}
 use Rattle.fields.specs.Outcome.{timeReply}
-use Rattle.fields.specs.Steps.{clockCall, dayCall, replaced}
+use Rattle.fields.specs.Steps.{callOf, clockCall, dayCall, newDateOf, replaced, nanStart}
+use Rattle.fields.specs.declared.Start.the-variants.{From, Nan}
+
+-- ---- how many arguments a setter has, by its first
+pub day-bits : (first : ℕ) → first < 3 → 3 - first ≡ bitsOf (callOf first)
+day-bits zero h = refl
+day-bits (suc zero) h = refl
+day-bits (suc (suc zero)) h = refl
+day-bits (suc (suc (suc n))) h = absurd (omega arith)
+
+pub clock-bits : (first : ℕ) → 3 ≤ first → first < 7 → 7 - first ≡ bitsOf (callOf first)
+clock-bits zero g h = absurd (omega arith)
+clock-bits (suc zero) g h = absurd (omega arith)
+clock-bits (suc (suc zero)) g h = absurd (omega arith)
+clock-bits (suc (suc (suc zero))) g h = refl
+clock-bits (suc (suc (suc (suc zero)))) g h = refl
+clock-bits (suc (suc (suc (suc (suc zero))))) g h = refl
+clock-bits (suc (suc (suc (suc (suc (suc zero)))))) g h = refl
+clock-bits (suc (suc (suc (suc (suc (suc (suc n))))))) g h = absurd (omega arith)
+
+pub few-bits : (call : Call) → bitsOf call < 8
+few-bits build = omega arith
+few-bits setMilliseconds = omega arith
+few-bits setSeconds = omega arith
+few-bits setMinutes = omega arith
+few-bits setHours = omega arith
+few-bits setDate = omega arith
+few-bits setMonth = omega arith
+few-bits setFullYear = omega arith
 
 -- ---- the clock: hour 0, minute 1, second 2, millisecond 3
-pub clock-bits : (first : ℕ) → first < 4 → 4 - first ≡ bitsOf (clockCall first)
-clock-bits zero h = refl
-clock-bits (suc zero) h = refl
-clock-bits (suc (suc zero)) h = refl
-clock-bits (suc (suc (suc zero))) h = refl
-clock-bits (suc (suc (suc (suc n)))) h = absurd (omega arith)
-
 pub clock-date : (first : ℕ) → first < 4 → (t : Float) (fields : List ℕ)
     → makeDateF (dayF t) (makeTimeF (replaced fields first 0 (hourNow t)) (replaced fields first 1 (minuteNow t)) (replaced fields first 2 (secondNow t)) (replaced fields first 3 (msNow t)))
-    ≡ newDate (clockCall first) t (argument (clockCall first) t fields)
+    ≡ newDateOf (clockCall first) t fields
 unfolding newDate absent
 clock-date zero h t fields = refl
 clock-date (suc zero) h t fields = refl
@@ -44,34 +64,31 @@ clock-date (suc (suc zero)) h t fields = refl
 clock-date (suc (suc (suc zero))) h t fields = refl
 clock-date (suc (suc (suc (suc n)))) h t fields = absurd (omega arith)
 
-pub clock-nan : (first : ℕ) (local : Bool) (list : List Record) (fields : List ℕ) → valueOfNan (clockCall first) local list fields ≡ nan
-unfolding valueOfNan
-clock-nan zero local list fields = refl
-clock-nan (suc zero) local list fields = refl
-clock-nan (suc (suc zero)) local list fields = refl
-clock-nan (suc (suc (suc n))) local list fields = refl
+pub clock-from : (first : ℕ) → 3 ≤ first → clockCall (first - 3) ≡ callOf first
+clock-from first g = let e : suc (suc (suc (first - 3))) ≡ first = omega arith in ap callOf e
 
 -- ---- the day: year 0, month 1, date 2
-pub day-bits : (first : ℕ) → first < 3 → 3 - first ≡ bitsOf (dayCall first)
-day-bits zero h = refl
-day-bits (suc zero) h = refl
-day-bits (suc (suc zero)) h = refl
-day-bits (suc (suc (suc n))) h = absurd (omega arith)
-
 pub day-date : (first : ℕ) → first < 3 → (t : Float) (fields : List ℕ)
     → makeDateF (makeDayF (replaced fields first 0 (yearNow t)) (replaced fields first 1 (monthNow t)) (replaced fields first 2 (dateNow t))) (timeWithinDayF t)
-    ≡ newDate (dayCall first) t (argument (dayCall first) t fields)
+    ≡ newDateOf (dayCall first) t fields
 unfolding newDate absent
 day-date zero h t fields = refl
 day-date (suc zero) h t fields = refl
 day-date (suc (suc zero)) h t fields = refl
 day-date (suc (suc (suc n))) h t fields = absurd (omega arith)
 
-pub day-nan : (first : ℕ) → (first ≡ 0 → ⊥) → (local : Bool) (list : List Record) (fields : List ℕ) → valueOfNan (dayCall first) local list fields ≡ nan
-unfolding valueOfNan
-day-nan zero h local list fields = absurd (h refl)
-day-nan (suc zero) h local list fields = refl
-day-nan (suc (suc n)) h local list fields = refl
+-- ---- a NaN date: only the year's setter starts
+pub nan-starts : (first : ℕ) → first ≡ 0 → From (num 0) ≡ nanStart (callOf first)
+nan-starts first e = ap (λ (n : ℕ). nanStart (callOf n)) (sym e)
+
+pub nan-stays : (first : ℕ) → (first ≡ 0 → ⊥) → Nan ≡ nanStart (callOf first)
+nan-stays zero h = absurd (h refl)
+nan-stays (suc zero) h = refl
+nan-stays (suc (suc zero)) h = refl
+nan-stays (suc (suc (suc zero))) h = refl
+nan-stays (suc (suc (suc (suc zero)))) h = refl
+nan-stays (suc (suc (suc (suc (suc zero))))) h = refl
+nan-stays (suc (suc (suc (suc (suc (suc n)))))) h = refl
 
 -- "that one starts from 0, with no local shift"
 pub zero-takes : Takes (num 0)

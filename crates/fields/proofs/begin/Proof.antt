@@ -1,21 +1,22 @@
 -- `fields::begin` meets its contract: each way out is a row of the table, and past the rows the start is the time's. Assumes nothing.
 use borrow.Author.Needs.{needs}
 use borrow.Author.Tests.{not-true, not-false}
-use mathlib.Core.Path.{_≡_, sym, ap, _∙_}
+use mathlib.Core.Path.{_≡_, sym, ap, _∙_, subst}
 use mathlib.Core.Bool.{Bool, true, false, not, _&&_}
-use Prim.Native.Nat.{ℕ}
+use Prim.Native.Nat.{ℕ, _<_}
 use native.Mathlib.Omega.{arith}
-use lib.Ieee.{Float}
+use lib.Ieee.{ofBits, ofInt}
 use Rattle.zone.specs.Zone.{accepts, records}
 use Rattle.timevalue.specs.declared.TimeValue.{TimeValue}
 use Rattle.timevalue.specs.declared.TimeValue.the-variants as given
 use Rattle.timevalue.specs.TimeValue.{timeValueOf}
 use Rattle.field_record.specs.FieldRecord.{hasLength, hasOtherBit}
-use Rattle.fields.specs.Calls.{shiftIn}
+use Rattle.fields.specs.Calls.{bitsOf, shiftIn}
 use Rattle.fields.specs.Outcome.{isRefused}
-use Rattle.fields.specs.Steps.{startOf, started}
+use Rattle.fields.specs.Steps.{callOf, startOf, started}
 use Rattle.fields.specs.declared.Start.the-variants.{From}
 use Rattle.fields.proofs.Rows.{zone-row, time-row, length-row, map-row, start-row, listed}
+use Rattle.fields.proofs.Setters.{few-bits, nan-starts, nan-stays}
 use Rattle.fields.proofs.begin.Statement.{statement}
 use Rattle.fields.proofs.begin.Tie as tie
 
@@ -38,26 +39,32 @@ time-ok c = time-test (c .before) (c .if2 .left)
 length-ok : (c : tie.Else3) → hasLength (c .before .before .before .before .before .before .before .before .before .args .fields .now) ≡ true
 length-ok c = length-test (c .before) (not-false _ (c .if3 .left))
 
+bits-ok : (c : tie.After-bits-from) → c .bits-from .result < 8
+bits-ok c = subst (λ (n : ℕ). n < 8) (sym (c .bits-from .ensures)) (few-bits (callOf (c .before .before .before .before .before .before .before .before .before .before .args .first)))
+
+map-test : (c : tie.After-has-other-bit) {b : Bool} → c .has-other-bit .result ≡ b
+    → let a = c .before .before .before .before .before .before .before .before .before .before .before .args in hasOtherBit (bitsOf (callOf (a .first))) (a .fields .now) ≡ b
+map-test c e =
+    let a = c .before .before .before .before .before .before .before .before .before .before .before .args in
+    ap (λ (n : ℕ). hasOtherBit n (a .fields .now)) (sym (c .before .bits-from .ensures)) ∙ sym (c .has-other-bit .ensures) ∙ e
+
 -- past the rows, of the time's value v
-start-is : (c : tie.Else4) (v : TimeValue) → c .before .before .before .before .before .before .time-value .result ≡ v
-    → let a = c .before .before .before .before .before .before .before .before .before .before .before .args in
-    startOf (a .local) (a .zone .now) v ≡ started (a .bits) (a .local) (a .zone .now) (a .time) (a .fields .now)
+start-is : (c : tie.Else4) (v : TimeValue) → c .before .before .before .before .before .before .before .time-value .result ≡ v
+    → let a = c .before .before .before .before .before .before .before .before .before .before .before .before .args in
+    startOf (callOf (a .first)) (a .local) (a .zone .now) v ≡ started (callOf (a .first)) (a .local) (a .zone .now) (a .time) (a .fields .now)
 start-is c v e =
-    let l = c .before .before in
+    let l = c .before .before .before in
     let t = l .before .before in
     let z = t .before .before .before in
     let a = z .before .before .before .before .args in
-    ap (startOf (a .local) (a .zone .now)) (sym e ∙ z' c)
-    ∙ start-row (a .bits) (a .local) (a .zone .now) (a .time) (a .fields .now) (list-ok z) (time-ok t) (length-ok l) (sym (c .before .has-other-bit .ensures) ∙ c .if4 .left)
-  where
-    z' : (c : tie.Else4) → c .before .before .before .before .before .before .time-value .result ≡ timeValueOf (c .before .before .before .before .before .before .before .before .before .before .before .args .time)
-    z' c = c .before .before .before .before .before .before .time-value .ensures
+    ap (startOf (callOf (a .first)) (a .local) (a .zone .now)) (sym e ∙ t .before .before .time-value .ensures)
+    ∙ start-row (callOf (a .first)) (a .local) (a .zone .now) (a .time) (a .fields .now) (list-ok z) (time-ok t) (length-ok l) (map-test (c .before) (c .if4 .left))
 
 zone-refused-requires : tie.Need-zone-refused-requires
 zone-refused-requires c κs = search needs
 
 returns : tie.Need-returns
-returns c = let a = c .before .before .before .before .args in zone-row (a .bits) (a .local) (a .zone .now) (a .time) (a .fields .now) (list-test (c .before) (c .if1 .taken))
+returns c = let a = c .before .before .before .before .args in zone-row (callOf (a .first)) (a .local) (a .zone .now) (a .time) (a .fields .now) (list-test (c .before) (c .if1 .taken))
 
 time-value-requires : tie.Need-time-value-requires
 time-value-requires c κs = search needs
@@ -69,7 +76,7 @@ returns-2 : tie.Need-returns-2
 returns-2 c =
     let z = c .before .before .before in
     let a = z .before .before .before .before .args in
-    time-row (a .bits) (a .local) (a .zone .now) (a .time) (a .fields .now) (list-ok z) (time-test (c .before) (c .if2 .taken))
+    time-row (callOf (a .first)) (a .local) (a .zone .now) (a .time) (a .fields .now) (list-ok z) (time-test (c .before) (c .if2 .taken))
 
 has-length-requires : tie.Need-has-length-requires
 has-length-requires c κs = search needs
@@ -79,25 +86,28 @@ returns-3 c =
     let t = c .before .before in
     let z = t .before .before .before in
     let a = z .before .before .before .before .args in
-    length-row (a .bits) (a .local) (a .zone .now) (a .time) (a .fields .now) (list-ok z) (time-ok t) (length-test (c .before) (not-true _ (c .if3 .taken)))
+    length-row (callOf (a .first)) (a .local) (a .zone .now) (a .time) (a .fields .now) (list-ok z) (time-ok t) (length-test (c .before) (not-true _ (c .if3 .taken)))
+
+bits-from-requires : tie.Need-bits-from-requires
+bits-from-requires c κs = search needs
 
 has-other-bit-requires : tie.Need-has-other-bit-requires
-has-other-bit-requires c κs = (length-ok c, c .before .before .before .before .before .before .before .before .before .pre)
+has-other-bit-requires c κs = (length-ok (c .before), bits-ok c)
 
 returns-4 : tie.Need-returns-4
 returns-4 c =
-    let l = c .before .before in
+    let l = c .before .before .before in
     let t = l .before .before in
     let z = t .before .before .before in
     let a = z .before .before .before .before .args in
-    map-row (a .bits) (a .local) (a .zone .now) (a .time) (a .fields .now) (list-ok z) (time-ok t) (length-ok l) (sym (c .before .has-other-bit .ensures) ∙ c .if4 .taken)
+    map-row (callOf (a .first)) (a .local) (a .zone .now) (a .time) (a .fields .now) (list-ok z) (time-ok t) (length-ok l) (map-test (c .before) (c .if4 .taken))
 
 enum-known-value : tie.Need-enum-known-value
 enum-known-value c = search needs
 
 local-time-requires : tie.Need-local-time-requires
 local-time-requires c κs =
-    let z = c .before .before .before .before .before .before .before .before .before .before .before in
+    let z = c .before .before .before .before .before .before .before .before .before .before .before .before in
     let a = z .before .before .before .before .args in
     listed (a .local) (a .zone .now) (list-ok z) (c .if5 .taken)
 
@@ -105,29 +115,39 @@ returns-5 : tie.Need-returns-5
 returns-5 c =
     let k = c .before .before .before in
     let m = k .before .before in
-    let a = m .before .before .before .before .before .before .before .before .before .before .before .args in
+    let a = m .before .before .before .before .before .before .before .before .before .before .before .before .args in
     ap From (c .local-time .ensures ∙ ap (λ (b : Bool). shiftIn b (records (a .zone .now)) (k .value .given .0 .0)) (sym (c .before .if5 .taken)))
     ∙ start-is m (given.Time (k .value .given .0 .0)) (k .value .given .1)
 
 enum-told : tie.Need-enum-told
 enum-told c = search needs
 
+returns-6 : tie.Need-returns-6
+unfolding ofBits ofInt
+returns-6 c =
+    let m = c .before .before .before in
+    let a = m .before .before .before .before .before .before .before .before .before .before .before .before .args in
+    nan-starts (a .first) (c .if6 .taken) ∙ start-is m given.Nan (c .before .enum-told .given .1)
+
 enum-told-2 : tie.Need-enum-told-2
 enum-told-2 c = search needs
 
-returns-6 : tie.Need-returns-6
-returns-6 c =
+returns-7 : tie.Need-returns-7
+returns-7 c =
     let k = c .before .before in
     let m = k .before .before in
-    let a = m .before .before .before .before .before .before .before .before .before .before .before .args in
+    let a = m .before .before .before .before .before .before .before .before .before .before .before .before .args in
     ap (λ (b : Bool). From (shiftIn b (records (a .zone .now)) (k .value .given .0 .0))) (sym (c .if5 .left))
     ∙ start-is m (given.Time (k .value .given .0 .0)) (k .value .given .1)
 
-returns-7 : tie.Need-returns-7
-returns-7 c = start-is (c .before .before) given.Nan (c .enum-told .given .1)
-
 returns-8 : tie.Need-returns-8
-returns-8 c = start-is (c .before .before) given.Refused (c .enum-told2 .given .1)
+returns-8 c =
+    let m = c .before .before .before in
+    let a = m .before .before .before .before .before .before .before .before .before .before .before .before .args in
+    nan-stays (a .first) (c .if6 .left) ∙ start-is m given.Nan (c .before .enum-told .given .1)
+
+returns-9 : tie.Need-returns-9
+returns-9 c = start-is (c .before .before) given.Refused (c .enum-told2 .given .1)
 
 pub begin-spec : {M : Type 1} → statement M
 begin-spec =
@@ -140,13 +160,15 @@ begin-spec =
     returns-2
     has-length-requires
     returns-3
+    bits-from-requires
     has-other-bit-requires
     returns-4
     enum-known-value
     local-time-requires
     returns-5
     enum-told
-    enum-told-2
     returns-6
+    enum-told-2
     returns-7
-    returns-8)
+    returns-8
+    returns-9)

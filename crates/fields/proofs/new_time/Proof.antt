@@ -3,12 +3,10 @@ use borrow.Author.Needs.{needs}
 use mathlib.Core.Path.{_≡_, sym, ap, ap₂, _∙_}
 use Prim.Native.Nat.{ℕ}
 use native.Mathlib.Omega.{arith}
-use lib.Ieee.{Float, binary64, toBits}
+use lib.Ieee.{Float}
 use Rattle.calendar.specs.Calendar.{num}
-use Rattle.zone.specs.Zone.{records}
-use Rattle.make.specs.Make.{makeDateF, timeClipF}
-use Rattle.fields.specs.Calls.{shiftOut, newDate, argument, valueFrom}
-use Rattle.fields.specs.Steps.{clockCall, replaced}
+use Rattle.make.specs.Make.{makeDateF}
+use Rattle.fields.specs.Steps.{replaced}
 use Rattle.fields.proofs.Setters.{clock-date, same-time, place-at, place-first}
 use Rattle.fields.proofs.new_time.Statement.{statement}
 use Rattle.fields.proofs.new_time.Tie as tie
@@ -20,25 +18,25 @@ int-to-float-argument : tie.Need-int-to-float-argument
 int-to-float-argument c = search needs
 
 argument-requires : tie.Need-argument-requires
-argument-requires c κs = let p = c .before .before .before .before in place-first (p .args .fields .now) (p .args .first) (p .pre .1 .filled)
+argument-requires c κs = let p = c .before .before .before in place-first (p .args .fields .now) (p .args .first) (p .pre .1 .filled)
 
 int-to-float-argument-2 : tie.Need-int-to-float-argument-2
 int-to-float-argument-2 c = search needs
 
 argument-requires-2 : tie.Need-argument-requires-2
-argument-requires-2 c κs = let p = c .before .before .before .before .before .before in place-at (p .args .fields .now) (p .args .first) 1 _ (p .pre .1 .filled) (omega arith) (c .before .argument .ensures .1)
+argument-requires-2 c κs = let p = c .before .before .before .before .before in place-at (p .args .fields .now) (p .args .first) 1 _ (p .pre .1 .filled) (omega arith) (c .before .argument .ensures .1)
 
 int-to-float-argument-3 : tie.Need-int-to-float-argument-3
 int-to-float-argument-3 c = search needs
 
 argument-requires-3 : tie.Need-argument-requires-3
-argument-requires-3 c κs = let p = c .before .before .before .before .before .before .before .before in place-at (p .args .fields .now) (p .args .first) 2 _ (p .pre .1 .filled) (omega arith) (c .before .argument2 .ensures .1)
+argument-requires-3 c κs = let p = c .before .before .before .before .before .before .before in place-at (p .args .fields .now) (p .args .first) 2 _ (p .pre .1 .filled) (omega arith) (c .before .argument2 .ensures .1)
 
 int-to-float-argument-4 : tie.Need-int-to-float-argument-4
 int-to-float-argument-4 c = search needs
 
 argument-requires-4 : tie.Need-argument-requires-4
-argument-requires-4 c κs = let p = c .before .before .before .before .before .before .before .before .before .before in place-at (p .args .fields .now) (p .args .first) 3 _ (p .pre .1 .filled) (omega arith) (c .before .argument3 .ensures .1)
+argument-requires-4 c κs = let p = c .before .before .before .before .before .before .before .before .before in place-at (p .args .fields .now) (p .args .first) 3 _ (p .pre .1 .filled) (omega arith) (c .before .argument3 .ensures .1)
 
 day-requires : tie.Need-day-requires
 day-requires c κs = search needs
@@ -49,29 +47,22 @@ make-time-requires c κs = search needs
 make-date-requires : tie.Need-make-date-requires
 make-date-requires c κs = search needs
 
-finish-requires : tie.Need-finish-requires
-finish-requires c κs = c .before .before .before .before .before .before .before .before .before .before .before .before .before .before .pre .1 .list
-
 returns : tie.Need-returns
-unfolding valueFrom
 returns c =
-    let d = c .before in
-    let a4 = d .before .before .before in
+    let a4 = c .before .before .before in
     let a3 = a4 .before .before in
     let a2 = a3 .before .before in
     let a1 = a2 .before .before in
     let parts = a1 .before .before .parts-of in
-    let p = a1 .before .before .before .before .before in
+    let p = a1 .before .before .before .before in
     let a = p .args in
     let field : ℕ → ℕ → Float = λ k n. replaced (a .fields .now) (a .first) k (num n) in
-    let date : d .make-date .result ≡ newDate (clockCall (a .first)) (a .t) (argument (clockCall (a .first)) (a .t) (a .fields .now)) =
-    d .make-date .ensures
-    ∙ ap₂ makeDateF (d .before .before .day .ensures)
-    (d .before .make-time .ensures
+    c .make-date .ensures
+    ∙ ap₂ makeDateF (c .before .before .day .ensures)
+    (c .before .make-time .ensures
     ∙ same-time (a1 .argument .ensures .0 ∙ ap (field 0) (parts .ensures .hour-is)) (a2 .argument2 .ensures .0 ∙ ap (field 1) (parts .ensures .minute-is))
     (a3 .argument3 .ensures .0 ∙ ap (field 2) (parts .ensures .second-is)) (a4 .argument4 .ensures .0 ∙ ap (field 3) (parts .ensures .ms-is)))
-    ∙ clock-date (a .first) (p .pre .0) (a .t) (a .fields .now) in
-    c .finish .ensures ∙ ap (λ (x : Float). toBits binary64 (timeClipF (shiftOut (a .local) (records (a .zone .now)) x))) date
+    ∙ clock-date (a .first) (p .pre .0) (a .t) (a .fields .now)
 
 pub new-time-spec : {M : Type 1} → statement M
 new-time-spec =
@@ -89,5 +80,4 @@ new-time-spec =
     day-requires
     make-time-requires
     make-date-requires
-    finish-requires
     returns)
