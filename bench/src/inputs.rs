@@ -1,25 +1,14 @@
 //! The inputs: the same in every run.
 
+use crate::random::Random;
+
 /// How many inputs a row has.
 pub const INPUTS: usize = 256;
 
-/// Numbers as if at random (splitmix64), from a fixed seed.
-pub struct Random(pub u64);
-
-impl Random {
-    pub fn next(&mut self) -> u64 {
-        self.0 = self.0.wrapping_add(0x9E37_79B9_7F4A_7C15);
-        let mut z = self.0;
-        z = (z ^ (z >> 30)).wrapping_mul(0xBF58_476D_1CE4_E5B9);
-        z = (z ^ (z >> 27)).wrapping_mul(0x94D0_49BB_1331_11EB);
-        z ^ (z >> 31)
-    }
-
-    /// A whole number of a stretch, its end left out.
-    pub fn within(&mut self, from: i64, to: i64) -> i64 {
-        let width = u64::try_from(to - from).expect("a stretch");
-        from + i64::try_from(self.next() % width).expect("below its width")
-    }
+/// A whole number of a stretch, its end left out.
+fn within(random: &mut Random, from: i64, to: i64) -> i64 {
+    let width = u64::try_from(to - from).expect("a stretch");
+    from + i64::try_from(random.next() % width).expect("below its width")
 }
 
 const MS_PER_YEAR: i64 = 31_556_952_000;
@@ -37,7 +26,7 @@ pub fn times_of_the_range() -> Vec<f64> {
 
 fn times(from: i64, to: i64) -> Vec<f64> {
     let mut random = Random(1);
-    (0..INPUTS).map(|_| random.within(from, to) as f64).collect()
+    (0..INPUTS).map(|_| within(&mut random, from, to) as f64).collect()
 }
 
 /// A zone list of so many records, twice a year through the years 1970 to 2099, or as near to each
@@ -83,7 +72,7 @@ pub fn mixed_texts() -> Vec<String> {
 }
 
 fn text(kind: Kind, random: &mut Random) -> String {
-    let mut n = |from, to| random.within(from, to);
+    let mut n = |from, to| within(random, from, to);
     let date = format!("{:04}-{:02}-{:02}", n(1970, 2100), n(1, 13), n(1, 29));
     let (hour, minute, second, ms) = (n(0, 24), n(0, 60), n(0, 60), n(0, 1000));
     match kind {
@@ -104,5 +93,5 @@ fn text(kind: Kind, random: &mut Random) -> String {
 pub fn fields() -> Vec<[f64; 7]> {
     let mut random = Random(4);
     let bounds = [(1970, 2100), (0, 12), (1, 32), (0, 24), (0, 60), (0, 60), (0, 1000)];
-    (0..INPUTS).map(|_| bounds.map(|(from, to)| random.within(from, to) as f64)).collect()
+    (0..INPUTS).map(|_| bounds.map(|(from, to)| within(&mut random, from, to) as f64)).collect()
 }

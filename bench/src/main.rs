@@ -3,6 +3,9 @@
 
 mod inputs;
 mod picture;
+#[allow(dead_code, reason = "shared with the differential run, which asks for more of it")]
+#[path = "../../differential/src/random.rs"]
+mod random;
 mod report;
 mod rows;
 mod timing;

@@ -1,7 +1,7 @@
-//! Random numbers from a fixed seed: splitmix64.
+//! Random numbers from a fixed seed: splitmix64. The benchmark takes its inputs from here too.
 
 /// The generator's state.
-pub struct Random(u64);
+pub struct Random(pub u64);
 
 impl Random {
     /// A generator for one family: the run's seed joined with the family's name.
