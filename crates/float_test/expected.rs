@@ -1,6 +1,8 @@
 // Rust's own answers for float_test. `expected pairs` prints the pairs that stand in stdin; without an argument it reads such pairs and prints what stdout has.
 use std::io::BufRead;
 
+mod xorshift;
+
 fn pairs() {
     let special = [
         0u64, 1, 2, 0xf_ffff_ffff_ffff, 0x10_0000_0000_0000, 0x3fdf_ffff_ffff_ffff, 0x3fe0_0000_0000_0000, 0x3fef_ffff_ffff_ffff, 0x3ff0_0000_0000_0000,
@@ -20,13 +22,7 @@ fn pairs() {
         }
     }
     // patterns at random, and whole numbers by whole numbers
-    let mut state = 0x9e37_79b9_7f4a_7c15u64;
-    let mut next = || {
-        state ^= state << 13;
-        state ^= state >> 7;
-        state ^= state << 17;
-        state
-    };
+    let mut next = xorshift::numbers();
     for _ in 0..100 {
         println!("{:016x} {:016x}", next(), next());
         let (t, d) = ((next() >> 10) as i64 - (1 << 53), (next() >> (11 + next() % 50)) + 1);

@@ -3,14 +3,11 @@
 use std::convert::TryInto;
 use std::io::{Read, Write};
 
+#[path = "../float_test/xorshift.rs"]
+mod xorshift;
+
 fn list() -> Vec<(i64, i32)> {
-    let mut state = 0x9e37_79b9_7f4a_7c15u64;
-    let mut next = || {
-        state ^= state << 13;
-        state ^= state >> 7;
-        state ^= state << 17;
-        state
-    };
+    let mut next = xorshift::numbers();
     // at a second that is asked, one before it or one past it
     let mut records: Vec<(i64, i32)> = (0..1024)
         .map(|k| ((k << 31) - (1 << 40) + (next() % 3) as i64 - 1, (next() % 172_799) as i32 - 86_399))
