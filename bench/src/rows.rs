@@ -460,7 +460,7 @@ fn setting(rows: &mut Vec<Row>, zones: &[Zone]) {
 fn set_pair(both: &Both, zone: Option<&Zone>, given: usize) -> Pair {
     let utc = Zone::new(1);
     let mut engine = zone.unwrap_or(&utc).engine();
-    let method = timed::method(both.setter, zone.is_some());
+    let method = both.setter.method(zone.is_some());
     let start = both.fields.start;
     let args: Vec<_> = inputs::fields().iter().map(|f| f[start..start + given].to_vec()).collect();
     let values: Vec<_> = args.iter().map(|args| values(args)).collect();

@@ -1,10 +1,14 @@
 //! The oracle's public doors. Every answer comes from the original's own text.
 
 use crate::builtins::BuiltInConstructor;
-use crate::builtins::date::{Date, utils, utils::doors as private};
+use crate::builtins::date::{Date, utils::doors::read};
 use crate::context::{Context, HostHooks};
+use crate::object::NativeFn;
 use crate::{JsObject, JsResult, JsStr, JsString, JsValue};
 use std::rc::Rc;
+
+/// The functions of date/utils.rs, under their own names.
+pub use crate::builtins::date::utils::doors::{calendar, digits, local, make};
 
 /// Document 01's zone list as a host hook: seconds rising, each with its offset in seconds.
 #[derive(Clone, Debug)]
@@ -39,8 +43,8 @@ impl HostHooks for ZoneList {
 /// `DateParser::parse`; a text that is not ASCII goes to `parse_date`, which refuses it first.
 pub fn parse(text: &[u8], zone: &ZoneList) -> Option<i64> {
     match std::str::from_utf8(text) {
-        Ok(text) if text.is_ascii() => utils::door_date_parser(text, zone),
-        _ => private::parse_date(&JsString::from(JsStr::latin1(text)), zone),
+        Ok(text) if text.is_ascii() => read::date_parser(text, zone),
+        _ => read::parse_date(&JsString::from(JsStr::latin1(text)), zone),
     }
 }
 
@@ -54,6 +58,28 @@ pub enum Setter {
     Date,
     Month,
     FullYear,
+}
+
+impl Setter {
+    /// Its method, local or in UTC.
+    pub fn method(self, local: bool) -> NativeFn {
+        match (self, local) {
+            (Self::Milliseconds, false) => Date::set_milliseconds::<false>,
+            (Self::Milliseconds, true) => Date::set_milliseconds::<true>,
+            (Self::Seconds, false) => Date::set_seconds::<false>,
+            (Self::Seconds, true) => Date::set_seconds::<true>,
+            (Self::Minutes, false) => Date::set_minutes::<false>,
+            (Self::Minutes, true) => Date::set_minutes::<true>,
+            (Self::Hours, false) => Date::set_hours::<false>,
+            (Self::Hours, true) => Date::set_hours::<true>,
+            (Self::Date, false) => Date::set_date::<false>,
+            (Self::Date, true) => Date::set_date::<true>,
+            (Self::Month, false) => Date::set_month::<false>,
+            (Self::Month, true) => Date::set_month::<true>,
+            (Self::FullYear, false) => Date::set_full_year::<false>,
+            (Self::FullYear, true) => Date::set_full_year::<true>,
+        }
+    }
 }
 
 fn date_object(t: f64) -> JsValue {
@@ -87,22 +113,7 @@ pub fn set(setter: Setter, zone: Option<&ZoneList>, t: f64, args: &[f64]) -> f64
     let this = &date_object(t);
     let utc = ZoneList::new(&[(0, 0)]);
     let c = &mut context(zone.unwrap_or(&utc));
-    number(match (setter, zone.is_some()) {
-        (Setter::Milliseconds, false) => Date::set_milliseconds::<false>(this, args, c),
-        (Setter::Milliseconds, true) => Date::set_milliseconds::<true>(this, args, c),
-        (Setter::Seconds, false) => Date::set_seconds::<false>(this, args, c),
-        (Setter::Seconds, true) => Date::set_seconds::<true>(this, args, c),
-        (Setter::Minutes, false) => Date::set_minutes::<false>(this, args, c),
-        (Setter::Minutes, true) => Date::set_minutes::<true>(this, args, c),
-        (Setter::Hours, false) => Date::set_hours::<false>(this, args, c),
-        (Setter::Hours, true) => Date::set_hours::<true>(this, args, c),
-        (Setter::Date, false) => Date::set_date::<false>(this, args, c),
-        (Setter::Date, true) => Date::set_date::<true>(this, args, c),
-        (Setter::Month, false) => Date::set_month::<false>(this, args, c),
-        (Setter::Month, true) => Date::set_month::<true>(this, args, c),
-        (Setter::FullYear, false) => Date::set_full_year::<false>(this, args, c),
-        (Setter::FullYear, true) => Date::set_full_year::<true>(this, args, c),
-    })
+    number(setter.method(zone.is_some())(this, args, c))
 }
 
 /// `Date.UTC` with the first arguments given.
@@ -135,105 +146,4 @@ pub fn to_utc_string(t: f64) -> Vec<u8> {
 /// `toString`.
 pub fn to_string(t: f64, zone: &ZoneList) -> Vec<u8> {
     text(Date::to_string(&date_object(t), &[], &mut context(zone)))
-}
-
-/// The functions of date/utils.rs, under their own names.
-pub mod calendar {
-    use super::{private, utils};
-    macro_rules! doors {
-        ($from:ident: $($name:ident -> $out:ty;)*) => {
-            $(pub fn $name(t: f64) -> $out { $from::$name(t) })*
-        };
-    }
-    doors! { utils:
-        year_from_time -> i32;
-        month_from_time -> u8;
-        date_from_time -> u8;
-        hour_from_time -> u8;
-        min_from_time -> u8;
-        sec_from_time -> u8;
-        ms_from_time -> u16;
-    }
-    doors! { private:
-        day -> f64;
-        time_within_day -> f64;
-        days_in_year -> u16;
-        day_from_year -> f64;
-        time_from_year -> f64;
-        day_within_year -> u16;
-        in_leap_year -> u16;
-        week_day -> u8;
-    }
-}
-
-/// The makers.
-pub mod make {
-    use super::private;
-    pub fn make_time(hour: f64, min: f64, sec: f64, ms: f64) -> f64 {
-        private::make_time(hour, min, sec, ms)
-    }
-    pub fn make_day(year: f64, month: f64, date: f64) -> f64 {
-        private::make_day(year, month, date)
-    }
-    pub fn make_date(day: f64, time: f64) -> f64 {
-        private::make_date(day, time)
-    }
-    pub fn make_full_year(year: f64) -> f64 {
-        private::make_full_year(year)
-    }
-    pub fn time_clip(time: f64) -> f64 {
-        super::utils::time_clip(time)
-    }
-}
-
-/// Local time and back.
-pub mod local {
-    use super::{ZoneList, bytes, private};
-    pub fn local_timezone_offset_seconds(t: f64, zone: &ZoneList) -> i32 {
-        private::local_timezone_offset_seconds(t, zone)
-    }
-    pub fn local_time(t: f64, zone: &ZoneList) -> f64 {
-        private::local_time(t, zone)
-    }
-    pub fn utc_t(t: f64, zone: &ZoneList) -> f64 {
-        private::utc_t(t, zone)
-    }
-    pub fn date_string(t: f64) -> Vec<u8> {
-        bytes(&private::date_string(t))
-    }
-    pub fn time_string(t: f64) -> Vec<u8> {
-        bytes(&private::time_string(t))
-    }
-    pub fn time_zone_string(t: f64, zone: &ZoneList) -> Vec<u8> {
-        bytes(&private::time_zone_string(t, zone))
-    }
-    pub fn to_date_string_t(t: f64, zone: &ZoneList) -> Vec<u8> {
-        bytes(&private::to_date_string_t(t, zone))
-    }
-}
-
-/// Digits in and out.
-pub mod digits {
-    use super::private;
-    pub fn process_4(val: u32, len: usize) -> u32 {
-        private::process_4(val, len)
-    }
-    pub fn process_8(val: u64, len: usize) -> u64 {
-        private::process_8(val, len)
-    }
-    pub fn pad_two(t: u8) -> Vec<u8> {
-        private::pad_two(t).to_vec()
-    }
-    pub fn pad_three(t: u16) -> Vec<u8> {
-        private::pad_three(t).to_vec()
-    }
-    pub fn pad_four(t: u32) -> Vec<u8> {
-        private::pad_four(t).to_vec()
-    }
-    pub fn pad_five(t: u32) -> Vec<u8> {
-        private::pad_five(t).to_vec()
-    }
-    pub fn pad_six(t: u32) -> Vec<u8> {
-        private::pad_six(t).to_vec()
-    }
 }

@@ -1,9 +1,9 @@
 //! For the benchmark: the original's own calls, with all that Boa keeps around them made beforehand
 //! (the context with its host hook, the date object, the arguments as values).
 
-use crate::builtins::date::{Date, utils, utils::doors as private};
+use crate::builtins::date::{Date, utils::doors::read};
 use crate::context::{Context, HostHooks};
-use crate::doors::Setter;
+use crate::doors::{local, make};
 use crate::object::NativeFn;
 use crate::{JsObject, JsString, JsValue};
 use std::rc::Rc;
@@ -38,7 +38,7 @@ impl Engine {
 
     /// `DateParser::parse`.
     pub fn read(&self, text: &str) -> Option<i64> {
-        utils::door_date_parser(text, &*self.hook)
+        read::date_parser(text, &*self.hook)
     }
 
     /// A method's answer that is a text.
@@ -66,9 +66,9 @@ impl Engine {
 
     /// The arithmetic of the many-field constructor, without its object.
     pub fn build_local(&self, [y, m, dt, h, min, s, milli]: [f64; 7]) -> f64 {
-        let day = private::make_day(private::make_full_year(y), m, dt);
-        let final_date = private::make_date(day, private::make_time(h, min, s, milli));
-        utils::time_clip(private::utc_t(final_date, &*self.hook))
+        let day = make::make_day(make::make_full_year(y), m, dt);
+        let final_date = make::make_date(day, make::make_time(h, min, s, milli));
+        make::time_clip(local::utc_t(final_date, &*self.hook))
     }
 
     /// A setter's method: it changes the date and answers its new value.
@@ -80,24 +80,4 @@ impl Engine {
 /// A date object.
 pub fn date(time: f64) -> JsValue {
     JsObject::of(Date::new(time)).into()
-}
-
-/// The method of a setter.
-pub fn method(setter: Setter, local: bool) -> NativeFn {
-    match (setter, local) {
-        (Setter::Milliseconds, false) => Date::set_milliseconds::<false>,
-        (Setter::Milliseconds, true) => Date::set_milliseconds::<true>,
-        (Setter::Seconds, false) => Date::set_seconds::<false>,
-        (Setter::Seconds, true) => Date::set_seconds::<true>,
-        (Setter::Minutes, false) => Date::set_minutes::<false>,
-        (Setter::Minutes, true) => Date::set_minutes::<true>,
-        (Setter::Hours, false) => Date::set_hours::<false>,
-        (Setter::Hours, true) => Date::set_hours::<true>,
-        (Setter::Date, false) => Date::set_date::<false>,
-        (Setter::Date, true) => Date::set_date::<true>,
-        (Setter::Month, false) => Date::set_month::<false>,
-        (Setter::Month, true) => Date::set_month::<true>,
-        (Setter::FullYear, false) => Date::set_full_year::<false>,
-        (Setter::FullYear, true) => Date::set_full_year::<true>,
-    }
 }

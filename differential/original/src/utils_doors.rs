@@ -1,103 +1,103 @@
-// Stands below the unchanged text of date/utils.rs: doors to what is private there.
+// Stands below the unchanged text of date/utils.rs: public doors to its functions, under their own names.
 
-/// `DateParser::parse` of a text.
-pub(crate) fn door_date_parser(text: &str, hooks: &dyn HostHooks) -> Option<i64> {
-    DateParser::new(text, hooks).parse()
-}
+pub mod doors {
+    use crate::builtins::date::utils;
+    use crate::{JsString, context::HostHooks};
 
-/// The remaining private functions, under their own names.
-pub(crate) mod doors {
-    use super::{HostHooks, JsString};
+    /// For each row a function that hands its arguments to the original's own.
+    macro_rules! doors {
+        ($from:path: $($name:ident($($arg:ident: $type:ty),*) -> $out:ty;)*) => {
+            $(pub fn $name($($arg: $type),*) -> $out {
+                use $from as from;
+                from::$name($($arg),*)
+            })*
+        };
+    }
 
-    pub(crate) fn days_in_year(y: f64) -> u16 {
-        super::days_in_year(y)
+    /// For each row the digits that the original writes into an array lent to it.
+    macro_rules! pads {
+        ($($name:ident($type:ty) -> $width:literal;)*) => {
+            $(pub fn $name(t: $type) -> [u8; $width] {
+                let mut output = [0; $width];
+                utils::$name(t, &mut output);
+                output
+            })*
+        };
     }
-    pub(crate) fn day_from_year(y: f64) -> f64 {
-        super::day_from_year(y)
+
+    /// The readers.
+    pub mod read {
+        use super::*;
+        /// `DateParser::parse` of a text.
+        pub fn date_parser(text: &str, hooks: &dyn HostHooks) -> Option<i64> {
+            utils::DateParser::new(text, hooks).parse()
+        }
+        doors! { utils:
+            parse_date(date: &JsString, hooks: &dyn HostHooks) -> Option<i64>;
+        }
     }
-    pub(crate) fn time_from_year(y: f64) -> f64 {
-        super::time_from_year(y)
+
+    /// The calendar.
+    pub mod calendar {
+        use super::*;
+        doors! { utils:
+            day(t: f64) -> f64;
+            time_within_day(t: f64) -> f64;
+            days_in_year(y: f64) -> u16;
+            day_from_year(y: f64) -> f64;
+            time_from_year(y: f64) -> f64;
+            year_from_time(t: f64) -> i32;
+            day_within_year(t: f64) -> u16;
+            in_leap_year(t: f64) -> u16;
+            month_from_time(t: f64) -> u8;
+            date_from_time(t: f64) -> u8;
+            week_day(t: f64) -> u8;
+            hour_from_time(t: f64) -> u8;
+            min_from_time(t: f64) -> u8;
+            sec_from_time(t: f64) -> u8;
+            ms_from_time(t: f64) -> u16;
+        }
     }
-    pub(crate) fn day_within_year(t: f64) -> u16 {
-        super::day_within_year(t)
+
+    /// The makers.
+    pub mod make {
+        use super::*;
+        doors! { utils:
+            make_time(hour: f64, min: f64, sec: f64, ms: f64) -> f64;
+            make_day(year: f64, month: f64, date: f64) -> f64;
+            make_date(day: f64, time: f64) -> f64;
+            make_full_year(year: f64) -> f64;
+            time_clip(time: f64) -> f64;
+        }
     }
-    pub(crate) fn in_leap_year(t: f64) -> u16 {
-        super::in_leap_year(t)
+
+    /// Local time and back, and the parts of the local text.
+    pub mod local {
+        use super::*;
+        doors! { utils:
+            local_timezone_offset_seconds(t: f64, hooks: &dyn HostHooks) -> i32;
+            local_time(t: f64, hooks: &dyn HostHooks) -> f64;
+            utc_t(t: f64, hooks: &dyn HostHooks) -> f64;
+            date_string(t: f64) -> JsString;
+            time_string(t: f64) -> JsString;
+            time_zone_string(t: f64, hooks: &dyn HostHooks) -> JsString;
+            to_date_string_t(t: f64, hooks: &dyn HostHooks) -> JsString;
+        }
     }
-    pub(crate) fn day(t: f64) -> f64 {
-        super::day(t)
-    }
-    pub(crate) fn time_within_day(t: f64) -> f64 {
-        super::time_within_day(t)
-    }
-    pub(crate) fn week_day(t: f64) -> u8 {
-        super::week_day(t)
-    }
-    pub(crate) fn make_time(hour: f64, min: f64, sec: f64, ms: f64) -> f64 {
-        super::make_time(hour, min, sec, ms)
-    }
-    pub(crate) fn make_day(year: f64, month: f64, date: f64) -> f64 {
-        super::make_day(year, month, date)
-    }
-    pub(crate) fn make_date(day: f64, time: f64) -> f64 {
-        super::make_date(day, time)
-    }
-    pub(crate) fn make_full_year(year: f64) -> f64 {
-        super::make_full_year(year)
-    }
-    pub(crate) fn local_time(t: f64, hooks: &dyn HostHooks) -> f64 {
-        super::local_time(t, hooks)
-    }
-    pub(crate) fn utc_t(t: f64, hooks: &dyn HostHooks) -> f64 {
-        super::utc_t(t, hooks)
-    }
-    pub(crate) fn local_timezone_offset_seconds(t: f64, hooks: &dyn HostHooks) -> i32 {
-        super::local_timezone_offset_seconds(t, hooks)
-    }
-    pub(crate) fn date_string(t: f64) -> JsString {
-        super::date_string(t)
-    }
-    pub(crate) fn time_string(t: f64) -> JsString {
-        super::time_string(t)
-    }
-    pub(crate) fn time_zone_string(t: f64, hooks: &dyn HostHooks) -> JsString {
-        super::time_zone_string(t, hooks)
-    }
-    pub(crate) fn to_date_string_t(t: f64, hooks: &dyn HostHooks) -> JsString {
-        super::to_date_string_t(t, hooks)
-    }
-    pub(crate) fn parse_date(text: &JsString, hooks: &dyn HostHooks) -> Option<i64> {
-        super::parse_date(text, hooks)
-    }
-    pub(crate) fn process_4(val: u32, len: usize) -> u32 {
-        super::fast_atoi::process_4(val, len)
-    }
-    pub(crate) fn process_8(val: u64, len: usize) -> u64 {
-        super::fast_atoi::process_8(val, len)
-    }
-    pub(crate) fn pad_two(t: u8) -> [u8; 2] {
-        let mut output = [0; 2];
-        super::pad_two(t, &mut output);
-        output
-    }
-    pub(crate) fn pad_three(t: u16) -> [u8; 3] {
-        let mut output = [0; 3];
-        super::pad_three(t, &mut output);
-        output
-    }
-    pub(crate) fn pad_four(t: u32) -> [u8; 4] {
-        let mut output = [0; 4];
-        super::pad_four(t, &mut output);
-        output
-    }
-    pub(crate) fn pad_five(t: u32) -> [u8; 5] {
-        let mut output = [0; 5];
-        super::pad_five(t, &mut output);
-        output
-    }
-    pub(crate) fn pad_six(t: u32) -> [u8; 6] {
-        let mut output = [0; 6];
-        super::pad_six(t, &mut output);
-        output
+
+    /// Digits in and out.
+    pub mod digits {
+        use super::*;
+        doors! { utils::fast_atoi:
+            process_4(val: u32, len: usize) -> u32;
+            process_8(val: u64, len: usize) -> u64;
+        }
+        pads! {
+            pad_two(u8) -> 2;
+            pad_three(u16) -> 3;
+            pad_four(u32) -> 4;
+            pad_five(u32) -> 5;
+            pad_six(u32) -> 6;
+        }
     }
 }

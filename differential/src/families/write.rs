@@ -79,20 +79,23 @@ fn random(run: &mut Run) {
 /// date_string, time_string and time_zone_string joined are to_date_string_t; "lengths: ISO 24 or
 /// 27, UTC 29 to 32, local 33 to 36, invalid 12"; "an offset of -30 s prints -0000".
 fn parts(run: &mut Run) {
+    use original::JsString;
     use original::doors::{ZoneList, local, to_iso_string, to_utc_string};
     for _ in 0..run.times(20_000) {
         let list = list(&mut run.random);
         let zone = ZoneList::new(&list);
         let tv = crate::inputs::time(&mut run.random, &list) as f64;
         let t = local::local_time(tv, &zone);
-        let suffix = local::time_zone_string(t, &zone);
-        let joined = [&local::date_string(t)[..], b" ", &local::time_string(t), &suffix].concat();
-        let text = local::to_date_string_t(tv, &zone);
+        let text = |part: JsString| part.to_std_string_lossy();
+        let [date, time] = [local::date_string(t), local::time_string(t)].map(text);
+        let joined = format!("{date} {time}{}", text(local::time_zone_string(t, &zone)));
+        let text = text(local::to_date_string_t(tv, &zone));
         let lengths = [24, 27].contains(&to_iso_string(tv).unwrap().len())
             && (29..=32).contains(&to_utc_string(tv).len())
             && (33..=36).contains(&text.len());
         run.fact(joined == text && lengths, || format!("texts of {tv} under {list:?}"));
     }
     let zone = ZoneList::new(&[(0, -30)]);
-    run.fact(local::time_zone_string(0.0, &zone) == b"-0000", || "offset -30 s".into());
+    let suffix = local::time_zone_string(0.0, &zone).to_std_string_lossy();
+    run.fact(suffix == "-0000", || "offset -30 s".into());
 }
