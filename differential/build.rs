@@ -8,7 +8,8 @@ use std::path::{Path, PathBuf};
 use std::{env, process::Command};
 
 fn main() {
-    println!("cargo::rustc-check-cfg=cfg(linked, values(any()))");
+    // Each function that is found becomes a cfg of its name; no name is known beforehand.
+    println!("cargo::rustc-check-cfg=cfg(any())");
     let mut found = Vec::new();
     for (variable, name) in [("ZOVATTHA_LIB", "zovattha"), ("DOORS_LIB", "doors")] {
         println!("cargo::rerun-if-env-changed={variable}");
@@ -21,7 +22,7 @@ fn main() {
         }
     }
     for symbol in &found {
-        println!("cargo::rustc-cfg=linked=\"{symbol}\"");
+        println!("cargo::rustc-cfg={symbol}");
     }
     println!("cargo::rustc-env=LINKED_SYMBOLS={}", found.join(" "));
 }

@@ -1,127 +1,24 @@
 //! The proved archive, in this process: every slice lent between guard bytes that must stay.
 
 use crate::case::Case;
-use crate::doors::{Four, Listed, ListedOne, One, Three, Two};
-use crate::lower::Linked;
-use crate::outcome::{Answer, Outcome};
+use crate::ffi::Answer;
+use crate::outcome::Outcome;
 use original::doors::Setter;
 
-/// Functions that an archive may or may not have: each name becomes a function that answers the
-/// linked one, or nothing where build.rs did not find its symbol.
-macro_rules! linked {
-    ($($symbol:literal $name:ident($($arg:ident: $type:ty),*) -> $out:ty;)*) => {
-        $(pub fn $name() -> Option<unsafe extern "C" fn($($type),*) -> $out> {
-            #[cfg(linked = $symbol)]
-            {
-                unsafe extern "C" {
-                    fn $name($($arg: $type),*) -> $out;
-                }
-                Some($name)
-            }
-            #[cfg(not(linked = $symbol))]
-            None
-        })*
-        /// Every name above, and whether it is linked.
-        pub fn all() -> Vec<(&'static str, bool)> {
-            vec![$(($symbol, $name().is_some())),*]
+/// What a function of an archive gives, or nothing where build.rs did not find its symbol.
+macro_rules! if_linked {
+    ($name:ident, $then:expr) => {{
+        #[cfg($name)]
+        {
+            Some($then)
         }
-    };
+        #[cfg(not($name))]
+        {
+            None
+        }
+    }};
 }
-pub(crate) use linked;
-
-type Bytes = *const u8;
-type Output = *mut u8;
-
-linked! {
-    "zovattha_read" zovattha_read(
-        zone: Bytes, zone_len: usize, text: Bytes, text_len: usize
-    ) -> Answer;
-    "zovattha_rewrite" zovattha_rewrite(
-        zone: Bytes, zone_len: usize, text: Bytes, text_len: usize, out: Output, out_len: usize
-    ) -> Answer;
-    "zovattha_to_iso_string" zovattha_to_iso_string(
-        time: u64, out: Output, out_len: usize
-    ) -> Answer;
-    "zovattha_to_utc_string" zovattha_to_utc_string(
-        time: u64, out: Output, out_len: usize
-    ) -> Answer;
-    "zovattha_to_string" zovattha_to_string(
-        zone: Bytes, zone_len: usize, time: u64, out: Output, out_len: usize
-    ) -> Answer;
-    "zovattha_build_utc" zovattha_build_utc(record: Bytes, record_len: usize) -> Answer;
-    "zovattha_build_local" zovattha_build_local(
-        zone: Bytes, zone_len: usize, record: Bytes, record_len: usize
-    ) -> Answer;
-    "zovattha_set_utc_milliseconds" zovattha_set_utc_milliseconds(
-        time: u64, record: Bytes, record_len: usize
-    ) -> Answer;
-    "zovattha_set_utc_seconds" zovattha_set_utc_seconds(
-        time: u64, record: Bytes, record_len: usize
-    ) -> Answer;
-    "zovattha_set_utc_minutes" zovattha_set_utc_minutes(
-        time: u64, record: Bytes, record_len: usize
-    ) -> Answer;
-    "zovattha_set_utc_hours" zovattha_set_utc_hours(
-        time: u64, record: Bytes, record_len: usize
-    ) -> Answer;
-    "zovattha_set_utc_date" zovattha_set_utc_date(
-        time: u64, record: Bytes, record_len: usize
-    ) -> Answer;
-    "zovattha_set_utc_month" zovattha_set_utc_month(
-        time: u64, record: Bytes, record_len: usize
-    ) -> Answer;
-    "zovattha_set_utc_full_year" zovattha_set_utc_full_year(
-        time: u64, record: Bytes, record_len: usize
-    ) -> Answer;
-    "zovattha_set_milliseconds" zovattha_set_milliseconds(
-        zone: Bytes, zone_len: usize, time: u64, record: Bytes, record_len: usize
-    ) -> Answer;
-    "zovattha_set_seconds" zovattha_set_seconds(
-        zone: Bytes, zone_len: usize, time: u64, record: Bytes, record_len: usize
-    ) -> Answer;
-    "zovattha_set_minutes" zovattha_set_minutes(
-        zone: Bytes, zone_len: usize, time: u64, record: Bytes, record_len: usize
-    ) -> Answer;
-    "zovattha_set_hours" zovattha_set_hours(
-        zone: Bytes, zone_len: usize, time: u64, record: Bytes, record_len: usize
-    ) -> Answer;
-    "zovattha_set_date" zovattha_set_date(
-        zone: Bytes, zone_len: usize, time: u64, record: Bytes, record_len: usize
-    ) -> Answer;
-    "zovattha_set_month" zovattha_set_month(
-        zone: Bytes, zone_len: usize, time: u64, record: Bytes, record_len: usize
-    ) -> Answer;
-    "zovattha_set_full_year" zovattha_set_full_year(
-        zone: Bytes, zone_len: usize, time: u64, record: Bytes, record_len: usize
-    ) -> Answer;
-}
-
-type SetUtc = unsafe extern "C" fn(u64, Bytes, usize) -> Answer;
-type Set = unsafe extern "C" fn(Bytes, usize, u64, Bytes, usize) -> Answer;
-
-fn set_utc(setter: Setter) -> Option<SetUtc> {
-    match setter {
-        Setter::Milliseconds => zovattha_set_utc_milliseconds(),
-        Setter::Seconds => zovattha_set_utc_seconds(),
-        Setter::Minutes => zovattha_set_utc_minutes(),
-        Setter::Hours => zovattha_set_utc_hours(),
-        Setter::Date => zovattha_set_utc_date(),
-        Setter::Month => zovattha_set_utc_month(),
-        Setter::FullYear => zovattha_set_utc_full_year(),
-    }
-}
-
-fn set(setter: Setter) -> Option<Set> {
-    match setter {
-        Setter::Milliseconds => zovattha_set_milliseconds(),
-        Setter::Seconds => zovattha_set_seconds(),
-        Setter::Minutes => zovattha_set_minutes(),
-        Setter::Hours => zovattha_set_hours(),
-        Setter::Date => zovattha_set_date(),
-        Setter::Month => zovattha_set_month(),
-        Setter::FullYear => zovattha_set_full_year(),
-    }
-}
+pub(crate) use if_linked;
 
 /// What a subject answered, and which lent byte it spoiled, if any.
 #[derive(Clone, Debug)]
@@ -227,42 +124,58 @@ fn call(case: &Case, null: bool) -> Option<Answered> {
     Some(Answered { outcome, spoiled })
 }
 
-/// # Safety
-/// The lent slices are whole and the archive's functions have the types written above.
-unsafe fn raw_call(case: &Case, zone: &Lent, input: &Lent, out: &mut Lent) -> Option<Answer> {
-    let (z, zn) = (zone.pointer(), zone.length());
-    let (i, n) = (input.pointer(), input.length());
-    let (o, on) = (out.pointer_mut(), out.length());
-    unsafe {
-        Some(match *case {
-            Case::Read { .. } => zovattha_read()?(z, zn, i, n),
-            Case::Rewrite { .. } => zovattha_rewrite()?(z, zn, i, n, o, on),
-            Case::ToIsoString { time, .. } => zovattha_to_iso_string()?(time, o, on),
-            Case::ToUtcString { time, .. } => zovattha_to_utc_string()?(time, o, on),
-            Case::ToString { time, .. } => zovattha_to_string()?(z, zn, time, o, on),
-            Case::BuildUtc { .. } => zovattha_build_utc()?(i, n),
-            Case::BuildLocal { .. } => zovattha_build_local()?(z, zn, i, n),
-            Case::SetUtc { setter, time, .. } => set_utc(setter)?(time, i, n),
-            Case::Set { setter, time, .. } => set(setter)?(z, zn, time, i, n),
-            Case::Door { door, args, .. } => {
-                let value = door_call((door.linked)(), z, zn, args)?;
-                Answer { number: 0, value, length: 0 }
+/// A row for each C function: the case that asks for it, and the call, by the names given first for
+/// the pointers and lengths of zone list, text or record, and output.
+macro_rules! functions {
+    ($lent:tt $($case:pat => $name:ident $args:tt;)*) => {
+        /// # Safety
+        /// The lent slices are whole and the archives' functions have the types they are declared by.
+        #[allow(unused_variables, reason = "an archive may lack the function that takes them")]
+        unsafe fn raw_call(
+            case: &Case,
+            zone: &Lent,
+            input: &Lent,
+            out: &mut Lent,
+        ) -> Option<Answer> {
+            let (list, text) = ((zone.pointer(), zone.length()), (input.pointer(), input.length()));
+            let $lent = (list.0, list.1, text.0, text.1, out.pointer_mut(), out.length());
+            match *case {
+                $($case => if_linked!($name, unsafe { crate::ffi::$name $args }),)*
+                Case::Door { door, args, .. } => {
+                    let value = unsafe { door.linked?(list, args) };
+                    Some(Answer { number: 0, value, length: 0 })
+                }
             }
-        })
-    }
+        }
+
+        /// Every C function, and whether it is linked.
+        pub fn all() -> Vec<(&'static str, bool)> {
+            vec![$((stringify!($name), cfg!($name))),*]
+        }
+    };
 }
 
-/// # Safety
-/// As above, for a test door.
-unsafe fn door_call(linked: Linked, z: Bytes, zn: usize, a: [u64; 4]) -> Option<u64> {
-    unsafe {
-        Some(match linked {
-            Linked::One(f) => (f? as One)(a[0]),
-            Linked::Two(f) => (f? as Two)(a[0], a[1]),
-            Linked::Three(f) => (f? as Three)(a[0], a[1], a[2]),
-            Linked::Four(f) => (f? as Four)(a[0], a[1], a[2], a[3]),
-            Linked::Listed(f) => (f? as Listed)(z, zn),
-            Linked::ListedOne(f) => (f? as ListedOne)(z, zn, a[0]),
-        })
-    }
+functions! {
+    (z, zn, i, n, o, on)
+    Case::Read { .. } => zovattha_read(z, zn, i, n);
+    Case::Rewrite { .. } => zovattha_rewrite(z, zn, i, n, o, on);
+    Case::ToIsoString { time, .. } => zovattha_to_iso_string(time, o, on);
+    Case::ToUtcString { time, .. } => zovattha_to_utc_string(time, o, on);
+    Case::ToString { time, .. } => zovattha_to_string(z, zn, time, o, on);
+    Case::BuildUtc { .. } => zovattha_build_utc(i, n);
+    Case::BuildLocal { .. } => zovattha_build_local(z, zn, i, n);
+    Case::SetUtc { setter: Setter::Milliseconds, time, .. } => zovattha_set_utc_milliseconds(time, i, n);
+    Case::SetUtc { setter: Setter::Seconds, time, .. } => zovattha_set_utc_seconds(time, i, n);
+    Case::SetUtc { setter: Setter::Minutes, time, .. } => zovattha_set_utc_minutes(time, i, n);
+    Case::SetUtc { setter: Setter::Hours, time, .. } => zovattha_set_utc_hours(time, i, n);
+    Case::SetUtc { setter: Setter::Date, time, .. } => zovattha_set_utc_date(time, i, n);
+    Case::SetUtc { setter: Setter::Month, time, .. } => zovattha_set_utc_month(time, i, n);
+    Case::SetUtc { setter: Setter::FullYear, time, .. } => zovattha_set_utc_full_year(time, i, n);
+    Case::Set { setter: Setter::Milliseconds, time, .. } => zovattha_set_milliseconds(z, zn, time, i, n);
+    Case::Set { setter: Setter::Seconds, time, .. } => zovattha_set_seconds(z, zn, time, i, n);
+    Case::Set { setter: Setter::Minutes, time, .. } => zovattha_set_minutes(z, zn, time, i, n);
+    Case::Set { setter: Setter::Hours, time, .. } => zovattha_set_hours(z, zn, time, i, n);
+    Case::Set { setter: Setter::Date, time, .. } => zovattha_set_date(z, zn, time, i, n);
+    Case::Set { setter: Setter::Month, time, .. } => zovattha_set_month(z, zn, time, i, n);
+    Case::Set { setter: Setter::FullYear, time, .. } => zovattha_set_full_year(z, zn, time, i, n);
 }

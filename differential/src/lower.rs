@@ -1,26 +1,27 @@
-//! The functions below the C interface: for each its tag, its door and the original's answer.
+//! The functions below the C interface, as the crate `doors` exports them: a row for each.
+//!
+//! Every argument and every result is one 64-bit word: an f64 as its bits (a NaN handed out has
+//! the bits 7FF8000000000000, a NaN handed in has any), a whole number in two's complement,
+//! extended with its sign, a truth as 0 or 1, digits as bytes, the first lowest. A zone list is a
+//! pointer and then a length in bytes, as in the C interface; but to `zone_accepted` only accepted
+//! lists are lent.
 
-use crate::doors;
+use crate::library::if_linked;
 use crate::outcome::bits;
 use original::doors::{ZoneList, calendar, digits, local, make};
 
-/// A linked door by the shape of its arguments.
-pub enum Linked {
-    One(Option<doors::One>),
-    Two(Option<doors::Two>),
-    Three(Option<doors::Three>),
-    Four(Option<doors::Four>),
-    Listed(Option<doors::Listed>),
-    ListedOne(Option<doors::ListedOne>),
-}
+/// A zone list as it is lent: its pointer and its length.
+type List = (*const u8, usize);
 
 /// A function below the C interface.
 pub struct Door {
     pub tag: &'static str,
+    symbol: &'static str,
     /// Words after the zone list, if it takes one.
     pub words: usize,
     pub listed: bool,
-    pub linked: fn() -> Linked,
+    /// The archive's answer, where it has the function.
+    pub linked: Option<unsafe fn(List, [u64; 4]) -> u64>,
     /// The original's answer; the list is there where it takes one and it is accepted.
     pub original: fn([u64; 4], Option<&ZoneList>) -> u64,
 }
@@ -40,71 +41,92 @@ fn packed(text: &[u8]) -> u64 {
     text.iter().rev().fold(0, |word, b| word << 8 | u64::from(*b))
 }
 
+/// A row: the tag, the C function with the names of its words (`&` before a list's), and what the
+/// original gives for them.
 macro_rules! table {
-    ($($tag:literal $door:ident $shape:ident $words:literal: $original:expr;)*) => {
+    ($($tag:literal $door:ident($(&$zone:ident $(,)?)? $($word:ident),*) => $original:expr;)*) => {
         &[$(Door {
             tag: $tag,
-            words: $words,
-            listed: matches!(Linked::$shape(None), Linked::Listed(_) | Linked::ListedOne(_)),
-            linked: || Linked::$shape(doors::$door()),
-            original: $original,
+            symbol: stringify!($door),
+            words: <[&str]>::len(&[$(stringify!($word)),*]),
+            listed: !<[&str]>::is_empty(&[$(stringify!($zone))?]),
+            linked: if_linked!($door, |_list, [$($word,)* ..]| {
+                unsafe extern "C" {
+                    fn $door($($zone: *const u8, length: usize,)? $($word: u64),*) -> u64;
+                }
+                $(let $zone = _list;)?
+                unsafe { $door($($zone.0, $zone.1,)? $($word),*) }
+            }),
+            original: |[$($word,)* ..], _list| {
+                $(let $zone = _list;)?
+                $original
+            },
         }),*]
     };
 }
 
 /// Every door, by tag.
 pub static DOORS: &[Door] = table! {
-    "FLOR" doors_floor One 1: |a, _| bits(f(a[0]).floor());
-    "TRNC" doors_trunc One 1: |a, _| bits(f(a[0]).trunc());
-    "ABSF" doors_abs One 1: |a, _| bits(f(a[0]).abs());
-    "CPSN" doors_copysign Two 2: |a, _| bits(f(a[0]).copysign(f(a[1])));
-    "REMU" doors_rem_euclid Two 2: |a, _| bits(f(a[0]).rem_euclid(f(a[1])));
-    "TOU1" doors_as_u8 One 1: |a, _| whole(f(a[0]) as u8);
-    "TOU2" doors_as_u16 One 1: |a, _| whole(f(a[0]) as u16);
-    "TOI4" doors_as_i32 One 1: |a, _| whole(f(a[0]) as i32);
-    "TOI8" doors_as_i64 One 1: |a, _| whole(f(a[0]) as i64);
-    "DAYT" doors_day One 1: |a, _| bits(calendar::day(f(a[0])));
-    "TWDY" doors_time_within_day One 1: |a, _| bits(calendar::time_within_day(f(a[0])));
-    "DIYR" doors_days_in_year One 1: |a, _| whole(calendar::days_in_year(f(a[0])));
-    "DFYR" doors_day_from_year One 1: |a, _| bits(calendar::day_from_year(f(a[0])));
-    "TFYR" doors_time_from_year One 1: |a, _| bits(calendar::time_from_year(f(a[0])));
-    "YFRT" doors_year_from_time One 1: |a, _| whole(calendar::year_from_time(f(a[0])));
-    "DWYR" doors_day_within_year One 1: |a, _| whole(calendar::day_within_year(f(a[0])));
-    "INLP" doors_in_leap_year One 1: |a, _| whole(calendar::in_leap_year(f(a[0])));
-    "MFRT" doors_month_from_time One 1: |a, _| whole(calendar::month_from_time(f(a[0])));
-    "DFRT" doors_date_from_time One 1: |a, _| whole(calendar::date_from_time(f(a[0])));
-    "WKDY" doors_week_day One 1: |a, _| whole(calendar::week_day(f(a[0])));
-    "HFRT" doors_hour_from_time One 1: |a, _| whole(calendar::hour_from_time(f(a[0])));
-    "MINT" doors_min_from_time One 1: |a, _| whole(calendar::min_from_time(f(a[0])));
-    "SFRT" doors_sec_from_time One 1: |a, _| whole(calendar::sec_from_time(f(a[0])));
-    "MSFT" doors_ms_from_time One 1: |a, _| whole(calendar::ms_from_time(f(a[0])));
-    "MKTM" doors_make_time Four 4: |a, _| bits(make::make_time(f(a[0]), f(a[1]), f(a[2]), f(a[3])));
-    "MKDY" doors_make_day Three 3: |a, _| bits(make::make_day(f(a[0]), f(a[1]), f(a[2])));
-    "MKDT" doors_make_date Two 2: |a, _| bits(make::make_date(f(a[0]), f(a[1])));
-    "MKFY" doors_make_full_year One 1: |a, _| bits(make::make_full_year(f(a[0])));
-    "CLIP" doors_time_clip One 1: |a, _| bits(make::time_clip(f(a[0])));
-    "ZACC" doors_zone_accepted Listed 0: |_, z| u64::from(z.is_some());
-    "ZOFF" doors_zone_offset ListedOne 1: |a, z| whole(offset(z, a[0] as i64));
-    "LOFF" doors_local_timezone_offset_seconds ListedOne 1: |a, z| {
-        whole(local::local_timezone_offset_seconds(f(a[0]), z.unwrap()))
+    // f64's own methods and saturating casts.
+    "FLOR" doors_floor(x) => bits(f(x).floor());
+    "TRNC" doors_trunc(x) => bits(f(x).trunc());
+    "ABSF" doors_abs(x) => bits(f(x).abs());
+    "CPSN" doors_copysign(x, sign) => bits(f(x).copysign(f(sign)));
+    "REMU" doors_rem_euclid(x, by) => bits(f(x).rem_euclid(f(by)));
+    "TOU1" doors_as_u8(x) => whole(f(x) as u8);
+    "TOU2" doors_as_u16(x) => whole(f(x) as u16);
+    "TOI4" doors_as_i32(x) => whole(f(x) as i32);
+    "TOI8" doors_as_i64(x) => whole(f(x) as i64);
+    // The calendar: time or year as f64 bits; whole results as whole numbers, f64 results as bits.
+    "DAYT" doors_day(t) => bits(calendar::day(f(t)));
+    "TWDY" doors_time_within_day(t) => bits(calendar::time_within_day(f(t)));
+    "DIYR" doors_days_in_year(y) => whole(calendar::days_in_year(f(y)));
+    "DFYR" doors_day_from_year(y) => bits(calendar::day_from_year(f(y)));
+    "TFYR" doors_time_from_year(y) => bits(calendar::time_from_year(f(y)));
+    "YFRT" doors_year_from_time(t) => whole(calendar::year_from_time(f(t)));
+    "DWYR" doors_day_within_year(t) => whole(calendar::day_within_year(f(t)));
+    "INLP" doors_in_leap_year(t) => whole(calendar::in_leap_year(f(t)));
+    "MFRT" doors_month_from_time(t) => whole(calendar::month_from_time(f(t)));
+    "DFRT" doors_date_from_time(t) => whole(calendar::date_from_time(f(t)));
+    "WKDY" doors_week_day(t) => whole(calendar::week_day(f(t)));
+    "HFRT" doors_hour_from_time(t) => whole(calendar::hour_from_time(f(t)));
+    "MINT" doors_min_from_time(t) => whole(calendar::min_from_time(f(t)));
+    "SFRT" doors_sec_from_time(t) => whole(calendar::sec_from_time(f(t)));
+    "MSFT" doors_ms_from_time(t) => whole(calendar::ms_from_time(f(t)));
+    // The makers: f64 bits throughout.
+    "MKTM" doors_make_time(hour, min, sec, ms) => {
+        bits(make::make_time(f(hour), f(min), f(sec), f(ms)))
     };
-    "LOCT" doors_local_time ListedOne 1: |a, z| bits(local::local_time(f(a[0]), z.unwrap()));
-    "UTCT" doors_utc_t ListedOne 1: |a, z| bits(local::utc_t(f(a[0]), z.unwrap()));
-    "PRC4" doors_process_4 Two 2: |a, _| u64::from(digits::process_4(a[0] as u32, a[1] as usize));
-    "PRC8" doors_process_8 Two 2: |a, _| digits::process_8(a[0], a[1] as usize);
-    "PAD2" doors_pad_two One 1: |a, _| packed(&digits::pad_two(a[0] as u8));
-    "PAD3" doors_pad_three One 1: |a, _| packed(&digits::pad_three(a[0] as u16));
-    "PAD4" doors_pad_four One 1: |a, _| packed(&digits::pad_four(a[0] as u32));
-    "PAD5" doors_pad_five One 1: |a, _| packed(&digits::pad_five(a[0] as u32));
-    "PAD6" doors_pad_six One 1: |a, _| packed(&digits::pad_six(a[0] as u32));
+    "MKDY" doors_make_day(year, month, date) => bits(make::make_day(f(year), f(month), f(date)));
+    "MKDT" doors_make_date(day, time) => bits(make::make_date(f(day), f(time)));
+    "MKFY" doors_make_full_year(year) => bits(make::make_full_year(f(year)));
+    "CLIP" doors_time_clip(time) => bits(make::time_clip(f(time)));
+    // The zone list: accepted or not; the offset in seconds at a second (i64) and at a time (f64
+    // bits); local time and back (f64 bits).
+    "ZACC" doors_zone_accepted(&zone) => u64::from(zone.is_some());
+    "ZOFF" doors_zone_offset(&zone, second) => whole(zone.unwrap().offset_at(second as i64));
+    "LOFF" doors_local_timezone_offset_seconds(&zone, t) => {
+        whole(local::local_timezone_offset_seconds(f(t), zone.unwrap()))
+    };
+    "LOCT" doors_local_time(&zone, t) => bits(local::local_time(f(t), zone.unwrap()));
+    "UTCT" doors_utc_t(&zone, t) => bits(local::utc_t(f(t), zone.unwrap()));
+    // Digits: process_4 takes 1 to 4 bytes (the value below 2^32), process_8 1 to 8; a pad takes
+    // a number of at most so many digits.
+    "PRC4" doors_process_4(val, len) => u64::from(digits::process_4(val as u32, len as usize));
+    "PRC8" doors_process_8(val, len) => digits::process_8(val, len as usize);
+    "PAD2" doors_pad_two(n) => packed(&digits::pad_two(n as u8));
+    "PAD3" doors_pad_three(n) => packed(&digits::pad_three(n as u16));
+    "PAD4" doors_pad_four(n) => packed(&digits::pad_four(n as u32));
+    "PAD5" doors_pad_five(n) => packed(&digits::pad_five(n as u32));
+    "PAD6" doors_pad_six(n) => packed(&digits::pad_six(n as u32));
 };
-
-/// The list's answer at a second, by the hook itself.
-fn offset(zone: Option<&ZoneList>, second: i64) -> i32 {
-    zone.unwrap().offset_at(second)
-}
 
 /// The door of a tag.
 pub fn door(tag: &str) -> Option<&'static Door> {
     DOORS.iter().find(|d| d.tag == tag)
+}
+
+/// Every door's C function, and whether it is linked.
+pub fn all() -> Vec<(&'static str, bool)> {
+    DOORS.iter().map(|door| (door.symbol, door.linked.is_some())).collect()
 }

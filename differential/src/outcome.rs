@@ -5,15 +5,6 @@ use crate::hex;
 /// The bits of every NaN that is handed out.
 pub const NAN: u64 = 0x7FF8_0000_0000_0000;
 
-/// An answer as it crosses the C interface.
-#[repr(C)]
-#[derive(Clone, Copy, Debug, PartialEq, Eq)]
-pub struct Answer {
-    pub number: u32,
-    pub value: u64,
-    pub length: usize,
-}
-
 /// An answer with the output at exit.
 #[derive(Clone, Debug, PartialEq, Eq)]
 pub struct Outcome {

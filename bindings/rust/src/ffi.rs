@@ -1,6 +1,6 @@
 //! include/zovattha.h in Rust: the C functions as they are. The rest of this crate calls them with
 //! slices, so that nothing below is left to a caller; they are public for those who hold zone lists
-//! and field records as bytes of their own.
+//! and field records as bytes of their own. The differential run declares them by this file too.
 //!
 //! Every function takes any bits and any bytes. What a caller keeps: a pointer lent with a length is
 //! good for that many bytes, and `out` overlaps no other run. A zone list is 12 bytes a record: a
