@@ -4,8 +4,11 @@
 //! target/staticlib/libdoors.a, the test doors. An archive that is not there is no error: its
 //! functions are then reported as absent. One that can't be read or linked is.
 
-use std::path::{Path, PathBuf};
-use std::{env, process::Command};
+#[path = "../bindings/rust/archive.rs"]
+mod archive;
+
+use std::env;
+use std::path::PathBuf;
 
 fn main() {
     // Each function that is found becomes a cfg of its name; no name is known beforehand.
@@ -13,12 +16,14 @@ fn main() {
     let mut found = Vec::new();
     for (variable, name) in [("ZOVATTHA_LIB", "zovattha"), ("DOORS_LIB", "doors")] {
         println!("cargo::rerun-if-env-changed={variable}");
-        let archive = archive(variable, name);
+        let archive = place(variable, name);
         println!("cargo::rerun-if-changed={}", archive.display());
         if archive.is_file() {
-            let symbols = symbols(&archive, name);
-            link(&archive);
-            found.extend(symbols);
+            let archive = archive.canonicalize().expect("the archive has a path");
+            let symbols = archive::defined(&archive).expect("the archive's symbols are known");
+            let prefix = format!("{name}_");
+            found.extend(symbols.into_iter().filter(|symbol| symbol.starts_with(&prefix)));
+            archive::link(&archive);
         }
     }
     for symbol in &found {
@@ -28,33 +33,8 @@ fn main() {
 }
 
 /// Where the archive is looked for.
-fn archive(variable: &str, name: &str) -> PathBuf {
+fn place(variable: &str, name: &str) -> PathBuf {
     let manifest = PathBuf::from(env::var_os("CARGO_MANIFEST_DIR").unwrap());
     let default = manifest.join(format!("../target/staticlib/lib{name}.a"));
     env::var_os(variable).map_or(default, PathBuf::from)
-}
-
-/// The functions that the archive defines, by `nm`.
-fn symbols(archive: &Path, name: &str) -> Vec<String> {
-    let output = Command::new("nm")
-        .args(["-g", "--defined-only"])
-        .arg(archive)
-        .output()
-        .expect("nm reads the archive's symbols");
-    assert!(output.status.success(), "nm cannot read {}", archive.display());
-    String::from_utf8(output.stdout)
-        .expect("symbols are ASCII")
-        .lines()
-        .filter_map(|line| line.split_once(" T "))
-        .map(|(_, symbol)| symbol.to_string())
-        .filter(|symbol| symbol.starts_with(&format!("{name}_")))
-        .collect()
-}
-
-/// Links the archive by its own file name.
-fn link(archive: &Path) {
-    let archive = archive.canonicalize().expect("the archive has a path");
-    let file = archive.file_name().unwrap().to_str().expect("an ASCII file name");
-    println!("cargo::rustc-link-search=native={}", archive.parent().unwrap().display());
-    println!("cargo::rustc-link-lib=static:+verbatim={file}");
 }
