@@ -1,8 +1,9 @@
-// A time taken apart into all its fields at once: the day and the mean-year estimate in f64, as the calendar has them, and integers from
-// there. The day, the year and the day within the year are worked out once. Writers and setters use it.
+// A time taken apart into all its fields at once, in integers from one cast on. The day, the year and the day within the year are worked out
+// once. Writers and setters use it.
 //
-// Years and days are counted from so far back that none is negative: the year y is y + 399,999, and the day d is d + 146,816,162. With the
-// year counted so, DayFromYear(y) is 365 z + z / 4 - z / 100 + z / 400, in unsigned numbers.
+// Years, days and milliseconds are counted from so far back that none is negative: the year y is y + 399,999, the day d is d + 146,816,162,
+// and the time t is t + 12,684,916,396,800,000, the milliseconds of as many days. With the year counted so, DayFromYear(y) is
+// 365 z + z / 4 - z / 100 + z / 400, in unsigned numbers.
 ghost use mathlib.Core.Path.{_≡_};
 ghost use Prim.Native.Nat.{_+_, _-_, _*_, _/_, _≤_};
 ghost use lib.IntN.{pos, _+ℤ_, _-ℤ_};
@@ -21,29 +22,38 @@ pub struct Parts {
     pub ms: u32,
 }
 
-struct DayAndTime {
-    day: u32,
-    time: u32,
+pub struct DayAndTime {
+    pub day: u32,
+    pub time: u32,
+}
+
+// The time t, counted as above. A sum with 0.0 is never -0, which the cast does not take.
+fn counted(t: f64) -> u64
+    requires { ⌜ Takes t ⌝ }
+    ensures { λ r. ⌜ pos r ≡ truncZ t +ℤ pos 12_684_916_396_800_000 ⌝ }
+{
+    ((t + 0.0) as i64 + 12_684_916_396_800_000) as u64
 }
 
 // The day of t, counted as above, and the milliseconds since it began.
-fn take_apart(t: f64) -> DayAndTime
+pub fn take_apart(t: f64) -> DayAndTime
     requires { ⌜ Takes t ⌝ }
     ensures { λ r. ⌜ (pos (r .day) ≡ Day (truncZ t) +ℤ pos 146_816_162) × (r .time ≡ TimeWithinDay (truncZ t)) ⌝ }
 {
-    let d = calendar::day(t);
+    let n = counted(t);
     DayAndTime {
-        day: (d + 146_816_162.0) as u32,
-        time: (t - d * 86_400_000.0 + 0.0) as u32,
+        day: (n / 86_400_000) as u32,
+        time: (n % 86_400_000) as u32,
     }
 }
 
-// The mean-year estimate of t's year, counted as above: 1970 + 399,999 = 401,969.
+// The mean-year estimate of t's year, counted as above: 15,820,164,000 is half a mean year and 401,969 of them (1970 + 399,999), less the
+// 12,684,916,396,800,000 that the time has more.
 fn estimate(t: f64) -> u32
     requires { ⌜ Takes t ⌝ }
     ensures { λ r. ⌜ pos r ≡ yearEstimate (truncZ t) +ℤ pos 399_999 ⌝ }
 {
-    (float::floor((t + 15_778_476_000.0) / 31_556_952_000.0) + 401_969.0) as u32
+    ((counted(t) + 15_820_164_000) / 31_556_952_000) as u32
 }
 
 // The first day of the year z, both counted from as many cycles of 400 years back: with z for the year y + 400 k - 1 it is
