@@ -1,4 +1,5 @@
 pub mod Tests
 pub mod Whole
 pub mod Seconds
+mod Counted
 mod Examples

@@ -68,7 +68,7 @@ module _ (list : List Record) (rule : IsZoneList list) (z : ℤ) where
   abbrev shift : ℤ
   shift = offsetOfInstant list z *ℤ pos 1000
 
-  offset-small : natAbs (offsetOfInstant list z) ≤ 86_399
+  pub offset-small : natAbs (offsetOfInstant list z) ≤ 86_399
   unfolding offsetOfInstant
   offset-small = offset-bounded list rule (askedSecond z)
 
