@@ -1,6 +1,7 @@
 // Time values as they cross into the work: 64 bits that are a NaN's, a whole number of the range, or refused. Writers and setters take them so.
 ghost use mathlib.Core.Path.{_≡_};
-ghost use Rattle.timevalue.specs.TimeValue.{timeValueOf};
+ghost use Rattle.float.specs.Whole.{truncZ};
+ghost use Rattle.timevalue.specs.TimeValue.{IsTime, timeValueOf};
 
 pub enum TimeValue {
     // A whole number in the range, never -0.
@@ -27,4 +28,12 @@ pub fn time_value(bits: u64) -> TimeValue
         }
     }
     TimeValue::Refused
+}
+
+// A time as an integer. A sum with 0.0 is never -0, which the cast does not take.
+pub fn whole(t: f64) -> i64
+    requires { ⌜ IsTime t ⌝ }
+    ensures { λ r. ⌜ r ≡ truncZ t ⌝ }
+{
+    (t + 0.0) as i64
 }

@@ -71,10 +71,12 @@ pub fn to_date_string_t(tv: f64, zone: &[u8], output: &mut [u8]) -> Reply
 {
     // 1. If tv is NaN, return "Invalid Date": `to_string` has tested that.
     // 2. Let t be LocalTime(tv).
-    let t = local::local_time(tv, zone);
+    let instant = timevalue::whole(tv);
+    let t = local::local_time_whole(instant, zone);
     // 3. Return DateString(t), SPACE, TimeString(t) and the suffix, which the original looks up at t and the standard at tv.
-    let offset = local::local_timezone_offset_seconds(t, zone);
-    let printed = text::local_string(date_fields(t), offset, output);
+    let offset = local::offset_whole(t, zone);
+    let shown = t as f64;
+    let printed = text::local_string(date_fields(shown), offset, output);
     reply(float::bits_of(tv), printed)
 }
 
