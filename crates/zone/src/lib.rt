@@ -1,12 +1,12 @@
 // The zone list, which stands for Boa's hook `local_timezone_offset_seconds` (context/hooks.rs): lent bytes, 12 a record.
 ghost use mathlib.Core.Path.{_≡_};
 ghost use mathlib.Core.Bool.{Bool};
-ghost use Prim.Native.Nat.{_+_, _*_, _≤_, _<_};
+ghost use Prim.Native.Nat.{_+_, _-_, _*_, _/_, _≤_, _<_};
 ghost use lib.Dec.{leb};
 ghost use lib.IntN.{natAbs};
 ghost use lib.ListN.{length};
 ghost use Rattle.zone.specs.Bytes.{littleEndian, signed};
-ghost use Rattle.zone.specs.Zone.{recordAt, records, Accepted, keeps, accepts, offsetAt};
+ghost use Rattle.zone.specs.Zone.{recordAt, records, Accepted, keeps, accepts, Narrowed, offsetAt};
 
 fn wide(x: u8) -> u32
     ensures { λ r. ⌜ (r ≡ x) × (r < 256) ⌝ }
@@ -123,21 +123,55 @@ pub fn accept(zone: &[u8]) -> bool
     true
 }
 
-// The offset that an accepted list gives at a second, by halving: `low` is the first record or not after `second`, and from `high` on
-// every record is after it.
+// The `size` records from `low` on.
+struct Run {
+    low: usize,
+    size: usize,
+}
+
+// One half of a run, in which the record that decides lies too. Of an odd number the half that is left is the larger one.
+fn halve(zone: &[u8], second: i64, run: Run) -> Run
+    requires { ⌜ Accepted (now zone) × Narrowed (now zone) second (run .low) (run .low + run .size) ⌝ }
+    ensures { λ r. ⌜ Narrowed (now (zone .entry)) second (r .low) (r .low + r .size) × (r .size ≡ run .size - run .size / 2) ⌝ }
+{
+    let half = run.size / 2;
+    if half < 1 {
+        return run;
+    }
+    let middle = run.low + half;
+    let low = if second_at(zone, middle) <= second {
+        middle
+    } else {
+        run.low
+    };
+    Run {
+        low,
+        size: run.size - half,
+    }
+}
+
+fn halve_five_times(zone: &[u8], second: i64, run: Run) -> Run
+    requires { ⌜ Accepted (now zone) × Narrowed (now zone) second (run .low) (run .low + run .size) ⌝ }
+    ensures { λ r. ⌜ Narrowed (now (zone .entry)) second (r .low) (r .low + r .size) × (r .size ≤ (run .size + 31) / 32) ⌝ }
+{
+    let half = halve(zone, second, run);
+    let quarter = halve(zone, second, half);
+    let eighth = halve(zone, second, quarter);
+    let sixteenth = halve(zone, second, eighth);
+    halve(zone, second, sixteenth)
+}
+
+// The offset that an accepted list gives at a second, by halving. 1,024 records are one after ten halvings, which are written without a
+// loop: in a loop the test of the second compiles to a jump, which is often mispredicted, and here to a conditional move.
 pub fn lookup(zone: &[u8], second: i64) -> i32
     requires { ⌜ Accepted (now zone) ⌝ }
     ensures { λ r. ⌜ r ≡ offsetAt (records (now (zone .entry))) second ⌝ }
 {
-    let mut low = 0;
-    let mut high = zone.len() / 12;
-    while low + 1 < high {
-        let middle = low + (high - low) / 2;
-        if second_at(zone, middle) <= second {
-            low = middle;
-        } else {
-            high = middle;
-        }
-    }
-    offset_at(zone, low)
+    let all = Run {
+        low: 0,
+        size: zone.len() / 12,
+    };
+    let some = halve_five_times(zone, second, all);
+    let one = halve_five_times(zone, second, some);
+    offset_at(zone, one.low)
 }
