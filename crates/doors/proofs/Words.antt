@@ -8,10 +8,11 @@ use lib.Dec.{T}
 use lib.Ieee.{Float, binary64, ofBits, toBits}
 use lib.IntN.{ℤ, pos, negsuc, natAbs, _-ℤ_}
 use lib.Seq.{sets}
-use lib.Signed.{ltZ, nonNeg}
+use lib.Signed.{_≤ℤ_, _<ℤ_}
 use mir.Syntax.{w64}
 use mir.Val.{SFits}
-use Rattle.ecma262.proofs.Int.{ints, read, Term, at, _-ᵗ_}
+use Rattle.ecma262.proofs.Int.{ints}
+use Rattle.ecma262.proofs.Machine.{flip}
 use Rattle.zone.specs.Bytes.{littleEndian}
 use Rattle.doors.specs.Door.{Given, Handed, Whole, Packed, word, eightZeros}
 
@@ -27,23 +28,11 @@ whole h = h .bits ∙ ap word (h .is)
 pub packed : {w : List ℕ} {n r : ℕ} → Packed w n r → r ≡ littleEndian 8 (sets eightZeros 0 w) 0
 packed p = p .word-is ∙ ap (λ (l : List ℕ). littleEndian 8 l 0) (p .put .stored)
 
--- ---- below zero: -1 - z is a number from 0 up, and what is left of all ones
-minus-one : (k : ℕ) → negsuc 0 -ℤ negsuc k ≡ pos k
-minus-one k = omega (ints, read (at (negsuc 0) -ᵗ at (negsuc k)))
+-- ---- the two halves of a whole number's word: below zero, where -1 - z is what is left of all ones, and from zero up
+pub flipped : (z : ℤ) → z <ℤ pos 0 → 18446744073709551615 - natAbs (negsuc 0 -ℤ z) ≡ word z
+flipped (pos n) h = absurd (omega ints)
+flipped (negsuc k) h = ap (λ (z : ℤ). 18446744073709551615 - natAbs z) (flip k) ∙ omega arith
 
-pub flipped-fits : (z : ℤ) → SFits w64 z → ltZ z (pos 0) ≡ true → SFits w64 (negsuc 0 -ℤ z) × T (nonNeg (negsuc 0 -ℤ z))
-flipped-fits (pos n) f t = absurd (omega (arith, lib.Dec.ltb→lt n 0 (subst T (sym t) tt)))
-flipped-fits (negsuc k) f t = (subst (SFits w64) (sym (minus-one k)) (record { sfits = f .sfits }), subst (λ (z : ℤ). T (nonNeg z)) (sym (minus-one k)) tt)
-
-pub flipped : (z : ℤ) → ltZ z (pos 0) ≡ true → 18446744073709551615 - natAbs (negsuc 0 -ℤ z) ≡ word z
-flipped (pos n) t = absurd (omega (arith, lib.Dec.ltb→lt n 0 (subst T (sym t) tt)))
-flipped (negsuc k) t = ap (λ (z : ℤ). 18446744073709551615 - natAbs z) (minus-one k) ∙ omega arith
-
--- ---- from zero up: itself
-pub from-zero : (z : ℤ) → ltZ z (pos 0) ≡ false → T (nonNeg z)
-from-zero (pos n) t = tt
-from-zero (negsuc k) t = absurd (true≢false t)
-
-pub plain : (z : ℤ) → ltZ z (pos 0) ≡ false → natAbs z ≡ word z
-plain (pos n) t = refl
-plain (negsuc k) t = absurd (true≢false t)
+pub plain : (z : ℤ) → pos 0 ≤ℤ z → natAbs z ≡ word z
+plain (pos n) h = refl
+plain (negsuc k) h = absurd (omega ints)

@@ -4,12 +4,12 @@ use mathlib.Core.Bool.{Bool, true, false, not}
 use Prim.Native.Nat.{ℕ, suc, _+_, _^_, _≤_, _<_}
 use native.Mathlib.Omega.{arith}
 use lib.Dec.{T}
-use lib.IntN.{ℤ, pos, negsuc, natAbs}
-use lib.Signed.{mag, leZ, ltZ, _≤ℤ_, _<ℤ_, leZ-yes, ltZ-yes, ltZ-no}
+use lib.IntN.{ℤ, pos, negsuc, natAbs, _-ℤ_}
+use lib.Signed.{mag, nonNeg, leZ, ltZ, _≤ℤ_, _<ℤ_, leZ-yes, ltZ-yes, ltZ-no}
 use mir.Syntax.{Width, w32, w64}
 use mir.Val.{SFits, hbits, toZ, ofZ}
 use mir.Facts.{toZ-ofZ}
-use Rattle.ecma262.proofs.Int.{plus, minus}
+use Rattle.ecma262.proofs.Int.{plus, minus, ints, diff-fact}
 
 mag-below : (z : ℤ) (k : ℕ) → (plus z ≤ minus z + k) × (minus z ≤ plus z + suc k) → mag z ≤ k
 mag-below (pos n) k h = omega arith
@@ -89,3 +89,32 @@ widen {v} {w} g x f h k =
 -- an i32 is an i64
 pub fits32-64 : {x : ℤ} → SFits w32 x → SFits w64 x
 fits32-64 f = record { sfits = omega (arith, f .sfits) }
+
+-- ---- a signed number by its sign and its magnitude
+
+-- what a test says of a number's bits, it says of the number
+pub below-zero : {w : Width} {x : ℤ} → SFits w x → ltZ (toZ w (ofZ w x)) (pos 0) ≡ true → x <ℤ pos 0
+below-zero f e = subst (λ z. z <ℤ pos 0) (kept f) (lt-true e)
+
+pub from-zero : {w : Width} {x : ℤ} → SFits w x → ltZ (toZ w (ofZ w x)) (pos 0) ≡ false → pos 0 ≤ℤ x
+from-zero f e = subst (λ z. pos 0 ≤ℤ z) (kept f) (lt-false e)
+
+-- a magnitude that was asked of the bits
+pub abs-of : {w : Width} {x : ℤ} {r : ℕ} → SFits w x → r ≡ natAbs (toZ w (ofZ w x)) → r ≡ natAbs x
+abs-of f e = e ∙ ap natAbs (kept f)
+
+-- -1 - x of a negative x: from 0 up, one less than its magnitude, and of the same width
+pub flip : (n : ℕ) → negsuc 0 -ℤ negsuc n ≡ pos n
+flip n = omega (ints, diff-fact (negsuc 0) (negsuc n))
+
+pub flip-abs : (x : ℤ) → x <ℤ pos 0 → natAbs (negsuc 0 -ℤ x) + 1 ≡ natAbs x
+flip-abs (pos n) h = absurd (omega ints)
+flip-abs (negsuc n) h = omega (arith, ap natAbs (flip n))
+
+pub flip-nonneg : (x : ℤ) → x <ℤ pos 0 → T (nonNeg (negsuc 0 -ℤ x))
+flip-nonneg (pos n) h = absurd (omega ints)
+flip-nonneg (negsuc n) h = subst (λ z. T (nonNeg z)) (sym (flip n)) tt
+
+pub flip-fits : {w : Width} (x : ℤ) → x <ℤ pos 0 → SFits w x → SFits w (negsuc 0 -ℤ x)
+flip-fits (pos n) h f = absurd (omega ints)
+flip-fits {w} (negsuc n) h f = subst (SFits w) (sym (flip n)) (record { sfits = f .sfits })
