@@ -1,6 +1,8 @@
 -- The number, the time value and the length of every answer, from document 01's table "Where a call is turned back". Definitions only.
 -- Assumes nothing.
 use Prim.Native.Nat.{ℕ}
+use lib.IntN.{ℤ}
+use lib.Ieee.{binary64, ofInt, toBits}
 use Rattle.answer.specs.declared.Refusal.{Refusal}
 use Rattle.answer.specs.declared.Refusal.the-variants.{ZoneList, TimeValue, RecordLength, RecordMap, TextEnds, TextByte, TextField, TextRest, Instant, NoTime, Output}
 use Rattle.answer.specs.declared.Reply.{Reply}
@@ -24,6 +26,10 @@ refusalNumber Output = 11
 -- "Every NaN handed out has bits 7FF8000000000000 (hexadecimal)."
 abbrev pub nanBits : ℕ
 nanBits = 0x7FF8_0000_0000_0000
+
+-- a whole number of milliseconds as the bits of a time value
+abbrev pub timeBits : ℤ → ℕ
+timeBits t = toBits binary64 (ofInt binary64 t)
 
 -- "Success is 0." "An answer is a number, a time value and a length." "The reader, builder and setters have length 0." A refused call has
 -- the fault's number, NaN and length 0.

@@ -1,17 +1,15 @@
 -- What one byte of the input prints and leaves open, by cases; and the chunk so far, with a byte more. Assumes nothing.
-use mathlib.Core.Path.{_≡_, refl, sym, ap, ap₂, _∙_, subst}
-use mathlib.Core.Bool.{Bool, true, false, cond}
+use mathlib.Core.Path.{_≡_, refl, sym, ap, _∙_, subst}
+use mathlib.Core.Bool.{cond}
 use mathlib.Core.List.{List, [], _∷_, _++_}
-use Prim.Native.Nat.{ℕ, suc, _+_, _*_, _≤_, _<_}
+use Prim.Native.Nat.{ℕ, _+_, _*_, _≤_, _<_}
 use native.Mathlib.Omega.{arith}
 use native.Mathlib.Numerals.{add-one}
 use borrow.Author.Tests.{eq-eqb, ne-eqb, lt-ltb, le-ltb}
-use lib.Dec.{ltb, eqb}
+use lib.Dec.{ltb}
 use lib.ListN.{length, take, set, getD}
 use lib.Seq.{length-take-le, take-suc-set, take-suc, take-all}
 use Rattle.datelines.specs.Lines.{lineOf, behind, prints, emitted, left, Puts}
-use Rattle.datelines.specs.Fed.{Feeds}
-use Rattle.datelines.specs.declared.Fed.{Fed}
 use Rattle.datelines.proofs.Runs.{none, puts-as, puts-then}
 use Rattle.datelines.proofs.Streams.{left-snoc, emitted-snoc, emitted-length, prints-length}
 

@@ -1,11 +1,10 @@
 -- Runs of stored bytes, one behind the other. Assumes nothing.
 use mathlib.Core.Path.{_≡_, refl, sym, ap, _∙_, subst}
-use mathlib.Core.List.{List, [], _∷_, _++_, append-assoc}
+use mathlib.Core.List.{List, [], _++_, append-assoc}
 use Prim.Native.Nat.{ℕ, _+_, _≤_}
-use native.Mathlib.Omega.{arith}
 use native.Mathlib.Nat.{add-assoc, add-zero}
 use lib.ListN.{length, take, drop, length-append}
-use lib.Seq.{sets, sets-eq, drop-drop}
+use lib.Seq.{sets-eq, drop-drop}
 use Rattle.text.specs.Output.{Puts as Stores}
 use Rattle.text.proofs.Runs.{sets-join}
 use Rattle.datelines.specs.Lines.{Puts}

@@ -1,28 +1,28 @@
 -- What is printed for an input. The first 33 bytes of a line decide its answer; so the chunks of an input, with no more kept of a line, print
 -- what the whole input prints, wherever it is cut. Assumes nothing.
-use mathlib.Core.Path.{_≡_, refl, sym, ap, ap₂, _∙_}
+use mathlib.Core.Path.{_≡_, refl, sym, ap, _∙_}
 use mathlib.Core.Bool.{Bool, true, false, cond}
 use mathlib.Core.List.{List, [], _∷_, _++_, append-assoc, append-nil}
 use mathlib.Core.Logic.{_⊎_, inl, inr}
-use Prim.Native.Nat.{ℕ, suc, _+_, _*_, _≤_, _<_}
+use Prim.Native.Nat.{ℕ, _*_, _≤_, _<_}
 use native.Mathlib.Omega.{arith}
-use borrow.Author.Tests.{lt-ltb, le-ltb}
-use lib.Dec.{T, ltb, eqb, ltb→lt, nltb→le, lit≤}
-use lib.ListN.{length, take, replicate, length-append, length-take}
+use borrow.Author.Tests.{lt-ltb}
+use lib.Dec.{ltb, eqb, ltb→lt, nltb→le, lit≤}
+use lib.ListN.{length, take, replicate, length-append}
 use lib.Seq.{take-all, take-append-le, length-take-le}
 use lib.Ieee.{binary64, ofBits}
 use Rattle.ecma262.proofs.Int.{by-test}
 use Rattle.ecma262.proofs.Texts.{lengths-iso}
 use Rattle.float.specs.Whole.{truncZ}
 use Rattle.zone.specs.Zone.{accepts, records}
-use Rattle.parser.specs.Reading.{Reading, read}
+use Rattle.parser.specs.Reading.{Reading}
 use Rattle.parser.proofs.Prefix.{read-prefix}
 use Rattle.answer.specs.Answer.{refusalNumber}
 use Rattle.answer.specs.declared.Refusal.the-variants.{ZoneList}
 use Rattle.answer.specs.declared.Reply.{Reply}
 use Rattle.answer.specs.declared.Reply.the-variants.{Time, Text, Refused}
 use Rattle.reader.specs.Outcome.{answerOf, readOutcome}
-use Rattle.datelines.specs.Lines.{acceptedLine, refusedLine, answerLine, lineOf, lastOf, answersFrom, answers, behind, prints, emitted, left, answersOfChunks, joined, isoOfBits, signedDecimal, decimal}
+use Rattle.datelines.specs.Lines.{acceptedLine, refusedLine, answerLine, lineOf, lastOf, answersFrom, answers, behind, prints, emitted, left, answersOfChunks, joined, isoOfBits}
 use Rattle.datelines.proofs.Decimal.{within, signed-length}
 
 -- THE PREFIX: "no accepted text is longer than 32 bytes, so a bounded prefix decides"

@@ -1,19 +1,18 @@
 -- Bits of a time of the range: the whole number that they stand for, the ISO writer's outcome on them, and that the reader answers no others.
 -- Assumes nothing.
 use mathlib.Core.Path.{_≡_, sym, ap, ap₂, _∙_}
-use mathlib.Core.Bool.{Bool, true, false, cond}
+use mathlib.Core.Bool.{Bool, cond}
 use mathlib.Core.List.{List, _++_}
 use Prim.Native.Nat.{ℕ, _^_, _≤_, _<_}
 use native.Mathlib.Omega.{arith}
 use borrow.Author.Tests.{le-ltb}
-use lib.Dec.{T, leb, leb→le}
-use lib.IntN.{ℤ, pos, negsuc, natAbs}
+use lib.IntN.{ℤ, pos, negsuc}
 use lib.Signed.{mag}
 use lib.ListN.{length, drop}
-use lib.Ieee.{Float, binary64, ofInt, ofBits, toBits, toSigned}
+use lib.Ieee.{binary64, ofInt, ofBits, toSigned}
 use lib.Ieee.Bits.{ofBits-toBits}
 use lib.Ieee.Fits.{ofInt-fits}
-use Rattle.ecma262.specs.Date.{timeRange, InRange}
+use Rattle.ecma262.specs.Date.{InRange}
 use Rattle.ecma262.specs.Texts.{isoText}
 use Rattle.float.specs.Whole.{IsWhole, truncZ}
 use Rattle.float.proofs.Whole.{ofInt-whole}
@@ -21,12 +20,12 @@ use Rattle.float.proofs.Rounding.{truncZ-whole}
 use Rattle.float.proofs.Casts.{toSigned-whole}
 use Rattle.timevalue.specs.declared.TimeValue.{TimeValue as Given}
 use Rattle.timevalue.proofs.Laws.{time-back}
+use Rattle.answer.specs.Answer.{timeBits}
 use Rattle.answer.specs.declared.Refusal.the-variants.{Output}
-use Rattle.answer.specs.declared.Reply.{Reply}
-use Rattle.answer.specs.declared.Reply.the-variants.{Time, Text, Refused}
-use Rattle.writer.specs.Outcome.{Outcome, refused, written}
+use Rattle.answer.specs.declared.Reply.the-variants.{Time, Text}
+use Rattle.writer.specs.Outcome.{refused, written}
 use Rattle.writer.specs.Writer.{isoCase, isoOutcome}
-use Rattle.reader.specs.Outcome.{timeBits, readOutcome}
+use Rattle.reader.specs.Outcome.{readOutcome}
 use Rattle.reader.proofs.Denotation.{accepted-exactly, reads-instant}
 use Rattle.datelines.specs.Lines.{isoOfBits, IsTimeBits}
 

@@ -14,10 +14,10 @@ use Rattle.ecma262.specs.Date.{InRange}
 use Rattle.ecma262.specs.Digits.{digit}
 use Rattle.ecma262.specs.Texts.{ascii, isoText}
 use Rattle.float.specs.Whole.{truncZ}
-use Rattle.answer.specs.Answer.{refusalNumber}
+use Rattle.answer.specs.Answer.{refusalNumber, timeBits}
 use Rattle.answer.specs.declared.Reply.{Reply}
 use Rattle.answer.specs.declared.Reply.the-variants.{Time, Text, Refused}
-use Rattle.reader.specs.Outcome.{timeBits, readOutcome}
+use Rattle.reader.specs.Outcome.{readOutcome}
 
 -- ---- numbers
 

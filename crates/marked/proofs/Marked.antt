@@ -22,7 +22,7 @@ use Rattle.writer.specs.Writer.{isoOutcome, utcOutcome, localOutcome}
 use Rattle.rewrite.specs.Rewrite.{rewriteOutcome}
 use Rattle.fields.specs.Calls.{absent, newDate, valueFrom, valueOfNan}
 use Rattle.fields.specs.Outcome.{setOutcome}
-use Rattle.marked.specs.Table.{Row, rows, right, every}
+use Rattle.marked.specs.Table.{rows, right, every}
 
 pub marked-rows : T (every rows)
 unfolding every right ones floorZ span climb size odd units round neg sum add sub mul div rem lt eq le ne ofInt toUnsigned toSigned isNan ofFields ofBits toBits DaysInYear DayFromYear YearFromTime monthOf dateOf daysBefore MakeDay isoYear dayName monthName paddedYear yearSign offsetSign withSign isNegative truncF floorF absF copysignF remEuclidF toIntegerOrInfinity truncZ dayF timeWithinDayF daysInYearF dayFromYearF timeFromYearF wrap32 yearEstimateF yearFromTimeF dayWithinYearF inLeapYearF monthFromTimeF dateFromTimeF yearOfMonth monthOfYear monthStartF dayOfMonthF makeDayF makeDateF timeClipF littleEndian signed recordAt records isZoneList accepts decides offsetAt askedSecond offsetOfInstant offsetOfLocal offsetOfSuffix localTime utcTime askedSecondF offsetSecondsF localTimeF utcF isTime timeValueOf hasLength hasOtherBit placeOf fieldAt fieldOr after give choose byte digitsAfter within signedYear readYear readDay readDate readDecimals readSecond readTime readOffsetMinute readOffset readZone ending timePart rest read fieldsTime instantOf answerAt readOutcome written isoOutcome utcOutcome localOutcome rewriteOutcome absent newDate valueFrom valueOfNan setOutcome

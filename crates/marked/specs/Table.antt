@@ -9,9 +9,9 @@ use lib.Dec.{eqb}
 use lib.IntN.{ℤ, pos, negℤ}
 use lib.ListN.{length, drop, replicate}
 use Rattle.ecma262.specs.Texts.{ascii}
-use Rattle.answer.specs.Answer.{replyOf, nanBits}
+use Rattle.answer.specs.Answer.{replyOf, nanBits, timeBits}
 use Rattle.answer.specs.declared.Answer.{Answer}
-use Rattle.reader.specs.Outcome.{timeBits, readOutcome}
+use Rattle.reader.specs.Outcome.{readOutcome}
 use Rattle.writer.specs.Outcome.{Outcome}
 use Rattle.writer.specs.Writer.{isoOutcome, utcOutcome, localOutcome}
 use Rattle.rewrite.specs.Rewrite.{rewriteOutcome}

@@ -1,5 +1,5 @@
 -- The reader's answer by cases: no accepted list, a fault of the text, an instant. Assumes nothing.
-use mathlib.Core.Path.{_≡_, sym, ap, ap₂, _∙_}
+use mathlib.Core.Path.{_≡_, sym, ap, ap₂}
 use mathlib.Core.Bool.{Bool, true, false, cond}
 use mathlib.Core.List.{List}
 use Prim.Native.Nat.{ℕ}
@@ -8,7 +8,6 @@ use Rattle.zone.specs.Zone.{accepts, records}
 use Rattle.parser.specs.Reading.{Reading, form, refused, read}
 use Rattle.parser.specs.declared.Fault.{Fault}
 use Rattle.answer.specs.declared.Refusal.the-variants.{ZoneList}
-use Rattle.answer.specs.declared.Reply.{Reply}
 use Rattle.answer.specs.declared.Reply.the-variants.{Refused}
 use Rattle.reader.specs.Denotes.{instantOf}
 use Rattle.reader.specs.Outcome.{refusalOf, answerAt, answerOf, readOutcome}

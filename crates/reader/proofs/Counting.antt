@@ -1,21 +1,19 @@
 -- Years, days and milliseconds of a text as the code counts them: from 1,199,999 years, 439,010,162 days, 37,930,477,996,800,000 ms back.
 -- Assumes nothing.
-use mathlib.Core.Path.{_≡_, refl, sym, ap, _∙_, subst}
+use mathlib.Core.Path.{_≡_, sym, ap, _∙_, subst}
 use mathlib.Core.Bool.{Bool, true, false, cond}
 use mathlib.Core.Logic.{_⊎_, inl, inr}
 use mathlib.Core.List.{List, []}
 use Prim.Native.Nat.{ℕ, _+_, _*_, _-_, _/_, _≤_, _<_}
 use native.Mathlib.Omega.{arith}
 use lib.IntN.{ℤ, pos, negsuc, negℤ, natAbs, _+ℤ_, _-ℤ_, _*ℤ_}
-use lib.Signed.{_≤ℤ_, _<ℤ_}
-use Rattle.ecma262.specs.Whole.{floorDiv}
 use borrow.Author.Tests.{le-leb, lt-leb}
-use Rattle.ecma262.specs.Date.{timeRange, DayFromYear, leapOf, daysBefore, firstOfMonth, MakeTime, MakeDay, MakeDate}
-use Rattle.ecma262.specs.Format.{Form, Offset, Date, Time as ClockTime, Year, Zone, yearNumber, dateMonth, dateDay, timeHour, timeMinute, timeSecond, timeMs}
+use Rattle.ecma262.specs.Date.{timeRange, DayFromYear, leapOf, daysBefore, MakeDay, MakeDate}
+use Rattle.ecma262.specs.Format.{Date, Time as ClockTime, Year, Zone, yearNumber, dateMonth, dateDay, timeHour, timeMinute, timeSecond, timeMs}
 use Rattle.ecma262.specs.Format.Year.{six}
 use Rattle.ecma262.specs.Format.Form.{date, timed}
-use Rattle.ecma262.specs.Format.Offset.{utc, local, offset}
-use Rattle.ecma262.proofs.Int.{plus, minus, ints, neg-fact, abs-in, abs-out, Term, at, _+ᵗ_, _-ᵗ_, _*ᵗ_, _ᵗ*_, _/ᵗ_, Facts, read}
+use Rattle.ecma262.specs.Format.Offset.{offset}
+use Rattle.ecma262.proofs.Int.{plus, minus, ints, neg-fact, abs-in, abs-out, at, _+ᵗ_, _-ᵗ_, _ᵗ*_, _/ᵗ_, read}
 use Rattle.ecma262.proofs.Leap.{leap-small}
 use Rattle.ecma262.proofs.Months.{month-nonempty, month-within}
 use Rattle.ecma262.proofs.Fields.{make-day-plain}
@@ -25,7 +23,8 @@ use Rattle.local.specs.Local.{askedSecond, offsetOfInstant, offsetOfLocal, utcT
 use Rattle.answer.specs.declared.Refusal.the-variants.{Instant}
 use Rattle.answer.specs.declared.Reply.the-variants.{Time, Refused}
 use Rattle.reader.specs.Denotes.{fieldsTime, lessOffset, instantOf}
-use Rattle.reader.specs.Outcome.{timeBits, answerAt}
+use Rattle.answer.specs.Answer.{timeBits}
+use Rattle.reader.specs.Outcome.{answerAt}
 use Rattle.parts.proofs.Years.{firstDay, first-day-counted, leap-counted}
 
 -- ---- years

@@ -1,19 +1,17 @@
 -- The reader answers the instant that a text denotes: for every accepted list and every text the answer is 0 with the instant t exactly when
 -- the text denotes t and t is in the range, and 9 exactly when it denotes an instant outside the range. Assumes nothing.
 use mathlib.Core.Path.{_≡_, refl, sym, ap, _∙_, subst}
-use mathlib.Core.Bool.{Bool, true, false, not, cond}
+use mathlib.Core.Bool.{Bool, true, false, cond}
 use mathlib.Core.List.{List}
 use mathlib.Core.Logic.{_↔_}
-use Prim.Native.Nat.{ℕ, _^_, _≤_, _<_}
+use Prim.Native.Nat.{ℕ, _<_}
 use native.Mathlib.Omega.{arith}
-use borrow.Author.Tests.{le-leb, lt-leb}
-use lib.Dec.{T, leb, leb→le, nleb→lt}
-use lib.IntN.{ℤ, pos, natAbs}
-use lib.Ieee.{Float, binary64, ofInt, ofBits, toBits, fits}
+use lib.Dec.{leb, leb→le, nleb→lt}
+use lib.IntN.{ℤ, natAbs}
+use lib.Ieee.{Float, binary64, ofInt, ofBits}
 use lib.Ieee.Bits.{ofBits-toBits}
 use lib.Ieee.Fits.{ofInt-fits}
 use Rattle.ecma262.specs.Date.{timeRange, InRange}
-use Rattle.ecma262.specs.Format.{Form, Writes}
 use Rattle.ecma262.proofs.Int.{by-test}
 use Rattle.float.specs.Whole.{IsWhole}
 use Rattle.float.proofs.Whole.{ofInt-whole}
@@ -24,11 +22,11 @@ use Rattle.parser.specs.Reading.{Reading, form, refused, read}
 use Rattle.parser.specs.declared.Fault.{Fault}
 use Rattle.parser.specs.declared.Fault.the-variants.{Short, Bad, Range, Trailing}
 use Rattle.parser.proofs.Accepts.{read-printed, printed-read, form-unique}
+use Rattle.answer.specs.Answer.{timeBits}
 use Rattle.answer.specs.declared.Refusal.the-variants.{ZoneList, Instant}
-use Rattle.answer.specs.declared.Reply.{Reply}
 use Rattle.answer.specs.declared.Reply.the-variants.{Time, Refused}
 use Rattle.reader.specs.Denotes.{instantOf, Denotes, AcceptedText}
-use Rattle.reader.specs.Outcome.{refusalOf, timeBits, answerAt, answerOf, readOutcome}
+use Rattle.reader.specs.Outcome.{refusalOf, answerAt, readOutcome}
 use Rattle.reader.proofs.Answers.{list-refused, text-refused, text-read}
 use Rattle.reader.proofs.Counting.{answer-inside, answer-beyond}
 
@@ -41,6 +39,11 @@ bits-unique t u h k e = number-unique (whole t h) (subst (λ (x : Float). IsWhol
 
     same : ofInt binary64 t ≡ ofInt binary64 u
     same = sym (ofBits-toBits binary64 (ofInt binary64 t) (ofInt-fits binary64 t)) ∙ ap (ofBits binary64) e ∙ ofBits-toBits binary64 (ofInt binary64 u) (ofInt-fits binary64 u)
+
+-- a text denotes one instant at most
+pub denotes-unique : (zone text : List ℕ) (t u : ℤ) → Denotes zone text t → Denotes zone text u → t ≡ u
+denotes-unique zone text t u d e =
+    sym (d .instant) ∙ ap (instantOf (records zone)) (form-unique text (d .form) (e .form) (d .writes) (e .writes)) ∙ e .instant
 
 module _ (zone text : List ℕ) (a : Accepted zone) where
   accepted : accepts zone ≡ true
@@ -61,9 +64,6 @@ module _ (zone text : List ℕ) (a : Accepted zone) where
       go : (r : Reading) → read text ≡ r → Read
       go (form f) e = instant (instantOf (records zone) f) (record { form = f; writes = read-printed text f e; instant = refl })
       go (refused f) e = fault f (sym (text-refused zone text f accepted e))
-
-  pub denotes-unique : (t u : ℤ) → Denotes zone text t → Denotes zone text u → t ≡ u
-  denotes-unique t u d e = sym (d .instant) ∙ ap (instantOf (records zone)) (form-unique text (d .form) (e .form) (d .writes) (e .writes)) ∙ e .instant
 
   no-time : (f : Fault) (v : ℕ) → Refused (refusalOf f) ≡ Time v → ⊥
   no-time f v e = let z : _≡_ {A = ℕ} 0 1 = cc in omega arith

@@ -1,7 +1,7 @@
 -- What a text denotes, in whole numbers: document 01, "What a text denotes". One relation on bytes: zone list, text and instant. It is
 -- from the declarative format (ecma262, specs/Format.antt), ECMA-262's makers and the zone list's rule. Definitions only. Assumes nothing.
 use mathlib.Core.Path.{_≡_}
-use mathlib.Core.Bool.{Bool, true, false}
+use mathlib.Core.Bool.{true, false}
 use mathlib.Core.List.{List}
 use Prim.Native.Nat.{ℕ, _+_, _*_}
 use lib.IntN.{ℤ, pos, _+ℤ_, _-ℤ_}

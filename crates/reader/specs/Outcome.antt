@@ -1,16 +1,16 @@
 -- The reader's answer for any zone list and any text: the refusal table's rows 1, 5 to 8, 7 and 9 in order, else the instant. Definitions
 -- only. Assumes nothing.
-use mathlib.Core.Bool.{Bool, true, false, cond}
+use mathlib.Core.Bool.{false, cond}
 use mathlib.Core.List.{List}
 use Prim.Native.Nat.{ℕ}
 use lib.Dec.{leb}
 use lib.IntN.{ℤ, natAbs}
-use lib.Ieee.{binary64, ofInt, toBits}
 use Rattle.ecma262.specs.Date.{timeRange}
 use Rattle.zone.specs.Zone.{Record, accepts, records}
 use Rattle.parser.specs.Reading.{Reading, form, refused, read}
 use Rattle.parser.specs.declared.Fault.{Fault}
 use Rattle.parser.specs.declared.Fault.the-variants.{Short, Bad, Range, Trailing}
+use Rattle.answer.specs.Answer.{timeBits}
 use Rattle.answer.specs.declared.Refusal.{Refusal}
 use Rattle.answer.specs.declared.Refusal.the-variants.{ZoneList, TextEnds, TextByte, TextField, TextRest, Instant}
 use Rattle.answer.specs.declared.Reply.{Reply}
@@ -23,10 +23,6 @@ refusalOf Short = TextEnds
 refusalOf Bad = TextByte
 refusalOf Range = TextField
 refusalOf Trailing = TextRest
-
--- a whole number as the bits of a time value
-abbrev pub timeBits : ℤ → ℕ
-timeBits t = toBits binary64 (ofInt binary64 t)
 
 -- row 9: the instant outside the range
 unfoldable pub answerAt : ℤ → Reply

@@ -19,10 +19,10 @@ use Rattle.ecma262.specs.Date.{InRange}
 use Rattle.ecma262.specs.Texts.{isoText}
 use Rattle.ecma262.specs.Written.{Written}
 use Rattle.zone.specs.Zone.{Accepted}
+use Rattle.answer.specs.Answer.{timeBits}
 use Rattle.answer.specs.declared.Reply.the-variants.{Time, Text}
 use Rattle.reader.specs.Denotes.{Denotes, AcceptedText}
-use Rattle.reader.specs.Outcome.{timeBits, readOutcome}
-use Rattle.writer.specs.Outcome.{Outcome}
+use Rattle.reader.specs.Outcome.{readOutcome}
 use Rattle.writer.specs.Writer.{isoOutcome}
 use Rattle.rewrite.specs.Rewrite.{rewriteOutcome, runOf}
 use Rattle.rewrite.proofs.Runs as runs

@@ -1,22 +1,20 @@
 -- A text of the written form is one of the Date Time String Format, and denotes the time of its fields, whatever the zone list. Assumes nothing.
-use mathlib.Core.Path.{_≡_, refl, sym, ap, _∙_, subst}
+use mathlib.Core.Path.{_≡_, refl, sym, ap, _∙_}
 use mathlib.Core.Bool.{true, false}
 use mathlib.Core.List.{List, _∷_, _++_}
-use Prim.Native.Nat.{ℕ, _+_, _≤_, _<_}
+use Prim.Native.Nat.{ℕ, _+_}
 use native.Mathlib.Omega.{arith}
-use lib.IntN.{ℤ, pos, negℤ, _-ℤ_}
-use Rattle.ecma262.specs.Date.{MakeTime, MakeDay, MakeDate, Fields, timeOf, InRange}
-use Rattle.ecma262.specs.Texts.{isoText}
-use Rattle.ecma262.specs.Written.{WrittenYear, WrittenAs, Written}
-use Rattle.ecma262.specs.Format.{Year, Date, Time, Form, YearBounds, yearNumber, printsYear, printsDate, printsTime, printsZone, Bounds, Writes}
+use lib.IntN.{ℤ, pos, _-ℤ_}
+use Rattle.ecma262.specs.Date.{MakeTime, MakeDay, MakeDate, Fields, timeOf}
+use Rattle.ecma262.specs.Written.{WrittenYear, WrittenAs}
+use Rattle.ecma262.specs.Format.{Year, Date, Time, Form, YearBounds, yearNumber, printsYear, printsDate, printsTime, printsZone, Writes}
 use Rattle.ecma262.specs.Format.Year.{four, six}
 use Rattle.ecma262.specs.Format.Date.{toDay}
 use Rattle.ecma262.specs.Format.Time.{toDecimals}
 use Rattle.ecma262.specs.Format.Zone.{zulu}
 use Rattle.ecma262.specs.Format.Form.{timed}
-use Rattle.ecma262.proofs.Int.{plus, minus, ints, Term, at, _-ᵗ_, read}
+use Rattle.ecma262.proofs.Int.{ints, at, _-ᵗ_, read}
 use Rattle.ecma262.proofs.Written.{month-days}
-use Rattle.zone.specs.Zone.{records}
 use Rattle.reader.specs.Denotes.{fieldsTime, instantOf, Denotes}
 
 -- the year of a written text, as the format has it

@@ -1,37 +1,28 @@
 -- The steps behind demand 3 (proofs/Demand3.antt): the one written text of an instant is `isoText`, the ISO writer writes it, the reader
 -- reads it back, and rewriting is the two together. Assumes nothing.
-use mathlib.Core.Path.{_≡_, refl, sym, ap, ap₂, _∙_, subst}
-use mathlib.Core.Bool.{Bool, true, false, cond}
+use mathlib.Core.Path.{_≡_, refl, sym, ap, _∙_, subst}
 use mathlib.Core.List.{List, _++_}
 use mathlib.Core.Logic.{_↔_}
 use Prim.Native.Nat.{ℕ, _≤_}
 use native.Mathlib.Omega.{arith}
-use borrow.Author.Tests.{le-ltb}
-use lib.Dec.{ltb}
 use lib.IntN.{ℤ, natAbs}
-use lib.Ieee.{Float, binary64, ofInt, toBits}
 use lib.ListN.{length, take, drop}
 use lib.Seq.{take-at}
 use Rattle.ecma262.specs.Date.{InRange, timeOf, fieldsOf}
 use Rattle.ecma262.specs.Texts.{isoText}
-use Rattle.ecma262.specs.Written.{WrittenAs, Written}
+use Rattle.ecma262.specs.Written.{Written}
 use Rattle.ecma262.proofs.Fields.{time-of-fields}
 use Rattle.ecma262.proofs.Written.{iso-written, iso-injective, written-time}
-use Rattle.float.specs.Whole.{truncZ}
-use Rattle.float.proofs.Whole.{ofInt-whole}
-use Rattle.float.proofs.Rounding.{truncZ-whole}
-use Rattle.timevalue.specs.declared.TimeValue.{TimeValue as Given}
-use Rattle.timevalue.proofs.Laws.{time-back}
-use Rattle.zone.specs.Zone.{Accepted, records}
-use Rattle.parser.proofs.Accepts.{form-unique}
+use Rattle.zone.specs.Zone.{Accepted}
+use Rattle.answer.specs.Answer.{timeBits}
 use Rattle.answer.specs.declared.Reply.{Reply}
 use Rattle.answer.specs.declared.Reply.the-variants.{Time, Text}
-use Rattle.reader.specs.Denotes.{instantOf, Denotes, AcceptedText}
-use Rattle.reader.specs.Outcome.{timeBits, readOutcome}
-use Rattle.reader.proofs.Denotation.{reads-instant}
-use Rattle.writer.specs.Outcome.{Outcome, written, refused}
-use Rattle.writer.specs.Writer.{isoCase, isoOutcome}
-use Rattle.answer.specs.declared.Refusal.the-variants.{Output}
+use Rattle.reader.specs.Denotes.{Denotes, AcceptedText}
+use Rattle.reader.specs.Outcome.{readOutcome}
+use Rattle.reader.proofs.Denotation.{denotes-unique, reads-instant}
+use Rattle.writer.specs.Outcome.{Outcome}
+use Rattle.writer.specs.Writer.{isoOutcome}
+use Rattle.writer.proofs.Outcomes.{written-whole, iso-writes}
 use Rattle.rewrite.specs.Rewrite.{thenWrite, rewriteOutcome, runOf}
 use Rattle.rewrite.proofs.Forms.{written-denotes}
 
@@ -39,10 +30,6 @@ shown : (t : ℤ) → InRange t → natAbs t ≤ 8_640_000_086_399_000
 shown t h = omega arith
 
 -- ---- the one text
-pub denotes-unique : (zone text : List ℕ) (t u : ℤ) → Denotes zone text t → Denotes zone text u → t ≡ u
-denotes-unique zone text t u d e =
-    sym (d .instant) ∙ ap (instantOf (records zone)) (form-unique text (d .form) (e .form) (d .writes) (e .writes)) ∙ e .instant
-
 pub iso-denotes : (zone : List ℕ) (t : ℤ) → InRange t → Denotes zone (isoText t) t
 iso-denotes zone t h = subst (Denotes zone (isoText t)) (time-of-fields t) (written-denotes (iso-written t (shown t h)) zone)
 
@@ -56,11 +43,7 @@ exactly-one-text t h = (record { fields = fieldsOf t; written = iso-written t (s
 -- ---- the ISO writer
 iso-outcome : (t : ℤ) → InRange t → (out : List ℕ) → length (isoText t) ≤ length out
     → isoOutcome (timeBits t) out ≡ record { reply = Text (timeBits t) (length (isoText t)); output = isoText t ++ drop (length (isoText t)) out }
-unfolding isoOutcome written
-iso-outcome t h out l =
-    ap (λ (g : Given). isoCase g out) (time-back t h)
-    ∙ ap (λ (z : ℤ). written (timeBits t) (isoText z) out) (truncZ-whole (ofInt-whole binary64 t (omega arith)))
-    ∙ ap (λ (b : Bool). cond b (refused Output out) (record { reply = Text (timeBits t) (length (isoText t)); output = isoText t ++ drop (length (isoText t)) out })) (le-ltb (length out) (length (isoText t)) l)
+iso-outcome t h out l = iso-writes t h out ∙ written-whole (timeBits t) (isoText t) out l
 
 run-of-text : (w out : List ℕ) (v : ℕ) → runOf (record { reply = Text v (length w); output = w ++ out }) ≡ w
 run-of-text w out v = take-at w out (length w) refl

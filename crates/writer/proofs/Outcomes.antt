@@ -6,7 +6,7 @@ use mathlib.Core.List.{List, _++_}
 use Prim.Native.Nat.{ℕ, _≤_, _<_, _^_}
 use native.Mathlib.Omega.{arith}
 use lib.IntN.{ℤ, natAbs}
-use lib.Ieee.{binary64, ofInt, toBits}
+use lib.Ieee.{binary64, ofInt}
 use lib.ListN.{length, drop}
 use borrow.Author.Tests.{lt-ltb, le-ltb}
 use Rattle.ecma262.specs.Date.{InRange}
@@ -19,7 +19,7 @@ use Rattle.timevalue.specs.declared.TimeValue.{TimeValue as Given}
 use Rattle.timevalue.specs.declared.TimeValue.the-variants.{Nan, Refused as NoTimeValue}
 use Rattle.timevalue.specs.TimeValue.{timeValueOf}
 use Rattle.timevalue.proofs.Laws.{time-back}
-use Rattle.answer.specs.Answer.{nanBits}
+use Rattle.answer.specs.Answer.{nanBits, timeBits}
 use Rattle.answer.specs.declared.Refusal.the-variants.{ZoneList, TimeValue, NoTime, Output}
 use Rattle.answer.specs.declared.Reply.the-variants.{Text}
 use Rattle.writer.specs.Outcome.{refused, written}
@@ -36,9 +36,6 @@ module _ (value : ℕ) (text out : List ℕ) where
   written-none h = simp (lt-ltb _ _ h)
 
 -- ---- a whole number of the range, by the bits of its f64
-abbrev pub timeBits : ℤ → ℕ
-timeBits t = toBits binary64 (ofInt binary64 t)
-
 -- the f64 of a whole number of the range has that value
 pub time-value : (t : ℤ) → InRange t → truncZ (ofInt binary64 t) ≡ t
 time-value t r = truncZ-whole (ofInt-whole binary64 t (small (natAbs t) r))

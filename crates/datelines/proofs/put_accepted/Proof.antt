@@ -1,6 +1,6 @@
 -- `datelines::put_accepted` meets its contract: five runs, one behind the other. Assumes nothing.
 use borrow.Author.Needs.{needs}
-use mathlib.Core.Path.{_≡_, refl, sym, ap, _∙_}
+use mathlib.Core.Path.{refl, ap, _∙_}
 use native.Mathlib.Omega.{arith}
 use lib.Ieee.{toSigned}
 use mir.Syntax.{w64}

@@ -1,10 +1,9 @@
 -- `datelines::put_iso` meets its contract: the ISO writer answers the text of a time of the range, and nothing else. Assumes nothing.
 use borrow.Author.Needs.{needs}
-use mathlib.Core.Path.{_≡_, sym, _∙_}
+use mathlib.Core.Path.{_≡_}
 use Prim.Native.Nat.{ℕ}
 use native.Mathlib.Omega.{arith}
 use denote.Ref.{now}
-use Rattle.answer.specs.declared.Reply.{Reply}
 use Rattle.datelines.proofs.Streams.{iso-length}
 use Rattle.datelines.proofs.Isos.{reply-is-text, text-length, iso-puts}
 use Rattle.datelines.proofs.put_iso.Statement.{statement}

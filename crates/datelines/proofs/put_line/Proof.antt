@@ -1,6 +1,6 @@
 -- `datelines::put_line` meets its contract: the reader's answer by cases. Assumes nothing.
 use borrow.Author.Needs.{needs}
-use mathlib.Core.Path.{_≡_, refl, sym, ap, _∙_}
+use mathlib.Core.Path.{sym, ap, _∙_}
 use native.Mathlib.Omega.{arith}
 use Rattle.datelines.specs.Lines.{refusedLine}
 use Rattle.datelines.proofs.Runs.{none, puts-as}

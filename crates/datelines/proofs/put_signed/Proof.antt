@@ -1,6 +1,6 @@
 -- `datelines::put_signed` meets its contract: the sign, and behind it the magnitude. Assumes nothing.
 use borrow.Author.Needs.{needs}
-use mathlib.Core.Path.{_≡_, refl, sym, ap, _∙_}
+use mathlib.Core.Path.{refl, sym, ap, _∙_}
 use mathlib.Core.List.{_++_}
 use Rattle.ecma262.specs.Texts.{ascii}
 use Rattle.datelines.specs.Lines.{decimal}

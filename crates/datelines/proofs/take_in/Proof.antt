@@ -1,6 +1,6 @@
 -- `datelines::take_in` meets its contract, by the byte: a newline, a byte that is kept, a byte past the 33. Assumes nothing.
 use borrow.Author.Needs.{needs}
-use mathlib.Core.Path.{_≡_, sym}
+use mathlib.Core.Path.{sym}
 use native.Mathlib.Omega.{arith}
 use lib.Seq.{length-take-le}
 use denote.Ref.{now}

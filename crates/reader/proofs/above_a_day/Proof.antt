@@ -1,13 +1,13 @@
 -- `reader::above_a_day` meets its contract. Assumes nothing.
 use mathlib.Core.Path.{_≡_, sym, ap, _∙_, subst}
-use Prim.Native.Nat.{ℕ, _≤_, _<_}
+use Prim.Native.Nat.{_≤_, _<_}
 use native.Mathlib.Omega.{arith}
 use lib.Dec.{T}
 use lib.IntN.{ℤ, pos, natAbs, _+ℤ_}
 use lib.Signed.{nonNeg}
 use mir.Syntax.{w32, w64}
 use mir.Val.{Fits, SFits}
-use Rattle.ecma262.proofs.Int.{plus, minus, ints, natural, abs-in, Term, at, _+ᵗ_, read}
+use Rattle.ecma262.proofs.Int.{plus, ints, natural, abs-in, at, _+ᵗ_, read}
 use Rattle.ecma262.proofs.Machine.{fits64, Widened, widen, fits32-64}
 use Rattle.reader.proofs.above_a_day.Statement.{statement}
 use Rattle.reader.proofs.above_a_day.Tie as tie

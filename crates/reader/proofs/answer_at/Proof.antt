@@ -11,7 +11,7 @@ use mir.Syntax.{w64}
 use mir.Val.{SFits, toZ, ofZ}
 use mir.Facts.{toZ-pos}
 use Rattle.ecma262.specs.Date.{timeRange}
-use Rattle.ecma262.proofs.Int.{plus, minus, Term, at, _-ᵗ_, read}
+use Rattle.ecma262.proofs.Int.{at, _-ᵗ_, read}
 use Rattle.ecma262.proofs.Machine.{fits64, kept}
 use Rattle.answer.specs.declared.Reply.the-variants.{Time}
 use Rattle.reader.proofs.Counting.{beyond, inside, answer-beyond, answer-inside}

@@ -1,11 +1,10 @@
 -- `reader::day_count` meets its contract. Assumes nothing.
 use borrow.Author.Needs.{needs}
-use mathlib.Core.Path.{_≡_, refl, sym, ap, _∙_, subst}
+use mathlib.Core.Path.{_≡_, sym, ap, _∙_, subst}
 use Prim.Native.Nat.{ℕ, _+_, _≤_, _<_}
 use native.Mathlib.Omega.{arith}
 use lib.Dec.{lit<}
-use lib.IntN.{ℤ, pos, _+ℤ_, _-ℤ_}
-use Rattle.ecma262.specs.Date.{MakeDay, daysBefore}
+use lib.IntN.{pos}
 use Rattle.ecma262.specs.Format.{yearNumber}
 use Rattle.parser.specs.Answer.{asYear}
 use Rattle.reader.proofs.Counting.{Counted, day-counted}

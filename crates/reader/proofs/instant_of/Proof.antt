@@ -1,9 +1,9 @@
 -- `reader::instant_of` meets its contract. Assumes nothing.
 use borrow.Author.Needs.{needs}
-use mathlib.Core.Path.{_≡_, refl, sym, ap, _∙_, subst}
-use Prim.Native.Nat.{ℕ, _+_, _*_, _≤_, _<_}
+use mathlib.Core.Path.{ap, _∙_}
+use Prim.Native.Nat.{_+_, _*_, _<_}
 use native.Mathlib.Omega.{arith}
-use lib.IntN.{ℤ, pos, _+ℤ_, _-ℤ_}
+use lib.IntN.{ℤ, pos, _+ℤ_}
 use Rattle.ecma262.specs.Format.{YearBounds, DateBounds, TimeBounds, ZoneBounds, zoneOffset}
 use Rattle.zone.specs.Zone.{records}
 use Rattle.parser.specs.Answer.{asYear, asDate, asTime, asZone}

@@ -1,12 +1,9 @@
 -- `reader::less_local` meets its contract. Assumes nothing.
 use borrow.Author.Needs.{needs}
-use mathlib.Core.Path.{_≡_, sym, ap, _∙_, subst}
-use Prim.Native.Nat.{ℕ, _+_, _*_, _-_, _≤_, _<_}
-use native.Mathlib.Omega.{arith}
-use lib.IntN.{ℤ, pos, natAbs, _+ℤ_, _-ℤ_, _*ℤ_}
+use mathlib.Core.Path.{sym, ap, _∙_, subst}
+use Prim.Native.Nat.{_+_, _*_, _-_, _≤_, _<_}
+use lib.IntN.{ℤ, pos, natAbs, _+ℤ_}
 use mir.Syntax.{w32, w64}
-use mir.Val.{SFits, toZ, ofZ}
-use Rattle.ecma262.proofs.Int.{plus, minus, ints, abs-in, Term, at, _+ᵗ_, _-ᵗ_, _*ᵗ_, read}
 use Rattle.ecma262.proofs.Machine.{kept}
 use Rattle.zone.specs.Zone.{records, offsetAt}
 use Rattle.zone.proofs.Offset.{offset-bounded}

@@ -1,10 +1,9 @@
 -- `reader::less_offset` meets its contract. Assumes nothing.
 use borrow.Author.Needs.{needs}
 use native.Mathlib.Omega.{arith}
-use mathlib.Core.Path.{_≡_, ap}
-use Prim.Native.Nat.{ℕ, _+_, _*_}
-use lib.IntN.{ℤ, pos, _+ℤ_, _-ℤ_}
-use Rattle.ecma262.proofs.Int.{plus, minus, ints, Term, at, _+ᵗ_, _-ᵗ_, read}
+use Prim.Native.Nat.{_+_, _*_}
+use lib.IntN.{pos}
+use Rattle.ecma262.proofs.Int.{ints, at, _+ᵗ_, _-ᵗ_, read}
 use Rattle.reader.proofs.less_offset.Statement.{statement}
 use Rattle.reader.proofs.less_offset.Tie as tie
 

@@ -1,13 +1,12 @@
 -- `reader::less_zone` meets its contract, case by case. Assumes nothing.
 use borrow.Author.Needs.{needs}
-use mathlib.Core.Path.{_≡_, refl, sym, ap, _∙_, subst}
+use mathlib.Core.Path.{_≡_}
 use Prim.Native.Nat.{ℕ, _+_, _*_, _≤_, _<_}
 use native.Mathlib.Omega.{arith}
 use lib.Dec.{lit≤}
-use lib.IntN.{ℤ, pos, _+ℤ_, _-ℤ_}
-use Rattle.ecma262.proofs.Int.{plus, minus, ints, Term, at, _+ᵗ_, _-ᵗ_, read}
+use lib.IntN.{pos, _+ℤ_, _-ℤ_}
+use Rattle.ecma262.proofs.Int.{ints, at, _+ᵗ_, _-ᵗ_, read}
 use Rattle.zone.specs.Zone.{records}
-use Rattle.reader.specs.Denotes.{lessOffset}
 use Rattle.reader.proofs.Counting.{offset-counted}
 use Rattle.reader.proofs.less_zone.Statement.{statement}
 use Rattle.reader.proofs.less_zone.Tie as tie

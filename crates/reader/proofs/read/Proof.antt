@@ -3,14 +3,12 @@ use borrow.Author.Needs.{needs}
 use borrow.Author.Tests.{not-true, not-false}
 use mathlib.Core.Path.{_≡_, sym, ap, _∙_}
 use mathlib.Core.Bool.{true}
-use lib.IntN.{ℤ}
 use Rattle.zone.specs.Zone.{accepts}
 use Rattle.zone.proofs.Rule.{accepts-sound}
-use Rattle.parser.specs.Reading.{refused}
 use Rattle.parser.specs.Answer.{asReading, asForm}
 use Rattle.parser.proofs.Accepts.{read-printed}
 use Rattle.answer.specs.declared.Reply.the-variants.{Refused}
-use Rattle.reader.specs.Outcome.{refusalOf, answerAt}
+use Rattle.reader.specs.Outcome.{answerAt}
 use Rattle.reader.proofs.Counting.{back}
 use Rattle.reader.proofs.Answers.{list-refused, text-refused, text-read}
 use Rattle.reader.proofs.read.Statement.{statement}

@@ -7,7 +7,7 @@ use lib.IntN.{ℤ, pos, _-ℤ_}
 use mir.Syntax.{w64}
 use mir.Val.{SFits, toZ, ofZ}
 use mir.Facts.{toZ-pos}
-use Rattle.ecma262.proofs.Int.{plus, minus, Term, at, _-ᵗ_, read}
+use Rattle.ecma262.proofs.Int.{at, _-ᵗ_, read}
 use Rattle.ecma262.proofs.Machine.{fits64, kept}
 use Rattle.reader.proofs.Counting.{second-counted}
 use Rattle.reader.proofs.second_of.Statement.{statement}

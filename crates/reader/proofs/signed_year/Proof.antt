@@ -1,7 +1,7 @@
 -- `reader::signed_year` meets its contract. Assumes nothing.
 use borrow.Author.Needs.{needs}
-use mathlib.Core.Path.{_≡_, refl, subst}
-use mathlib.Core.Bool.{Bool, true, false}
+use mathlib.Core.Path.{refl}
+use mathlib.Core.Bool.{true, false}
 use Rattle.reader.proofs.Counting.{year-signed}
 use Rattle.reader.proofs.signed_year.Statement.{statement}
 use Rattle.reader.proofs.signed_year.Tie as tie
