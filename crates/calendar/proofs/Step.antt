@@ -1,10 +1,10 @@
 -- An i32 widened to an i64 and moved by a small number, as `wrap_i32` takes it. Assumes nothing.
-use Prim.Native.Nat.{ℕ, _<_}
+use Prim.Native.Nat.{_<_}
 use lib.IntN.{ℤ, pos, negsuc}
 use lib.Signed.{mag, _≤ℤ_}
 use mir.Syntax.{w32, w64}
 use mir.Val.{SFits}
-use Rattle.ecma262.proofs.Int.{plus, minus, ints}
+use Rattle.ecma262.proofs.Int.{ints}
 use Rattle.ecma262.proofs.Machine.{fits64, Widened, widen, fits32-64}
 
 -- the range of an i32, as a call's `.ok` has it

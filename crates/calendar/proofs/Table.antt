@@ -1,6 +1,6 @@
 -- The table of the days before each month, by one test over its 24 entries; and the month and the date of a day of the year by that table,
 -- for every number of a day, also past the year's end. Assumes nothing.
-use mathlib.Core.Path.{_≡_, refl, sym, ap, _∙_, subst}
+use mathlib.Core.Path.{_≡_, sym, ap, _∙_, subst}
 use mathlib.Core.Bool.{Bool, cond}
 use mathlib.Core.List.{List, [], _∷_}
 use Prim.Native.Nat.{ℕ, _+_, _*_, _-_, _/_, _≤_, _<_}
@@ -12,7 +12,7 @@ use lib.ListN.{getD}
 use lib.Signed.{ltZ}
 use lib.Ieee.{Float, binary64, ofInt}
 use Rattle.ecma262.specs.Date.{daysBefore, monthOf, dateOf}
-use Rattle.ecma262.proofs.Int.{plus, minus, ints, by-test, by-cond, Term, at, _-ᵗ_, read}
+use Rattle.ecma262.proofs.Int.{ints, by-test, by-cond, at, _-ᵗ_, read}
 use Rattle.ecma262.proofs.Table.{all, all-at}
 use Rattle.ecma262.proofs.Months.{each-month, month-from, month-date, month-small}
 use Rattle.calendar.specs.Calendar.{daysInYearF, yearFromTimeF, inLeapYearF}

@@ -1,23 +1,23 @@
 -- The float calendar is ECMA-262's in whole numbers: of a whole time within the range and its local shifts (Shown, |t| ≤ 8,640,000,086,399,000)
 -- each function of utils.rs gives the standard's whole number. The sums, products and floored quotients are exact there. Assumes nothing.
-use mathlib.Core.Path.{_≡_, refl, sym, ap, ap₂, _∙_, subst}
-use mathlib.Core.Bool.{Bool, true, false, cond}
-use Prim.Native.Nat.{ℕ, suc, _+_, _*_, _-_, _%_, _^_, _≤_, _<_}
+use mathlib.Core.Path.{_≡_, sym, ap, ap₂, _∙_, subst}
+use mathlib.Core.Bool.{Bool, cond}
+use Prim.Native.Nat.{ℕ, _+_, _*_, _-_, _%_, _^_, _≤_, _<_}
 use native.Mathlib.Omega.{arith}
-use lib.Dec.{T, eqb, lit<, lit≤}
-use lib.IntN.{ℤ, pos, negsuc, natAbs, _+ℤ_, _-ℤ_, _*ℤ_}
-use lib.Signed.{mag, ltZ, _≤ℤ_, _<ℤ_}
-use lib.Ieee.{Float, binary64, add, sub, mul, div, lt, eq, ofInt, toUnsigned, toSigned}
+use lib.Dec.{eqb, lit<, lit≤}
+use lib.IntN.{ℤ, pos, negsuc, natAbs, _+ℤ_, _-ℤ_}
+use lib.Signed.{mag, _≤ℤ_}
+use lib.Ieee.{Float, binary64, add, div, lt, ofInt}
 use Rattle.ecma262.specs.Whole.{floorDiv, floorMod}
-use Rattle.ecma262.specs.Date.{Day, TimeWithinDay, DaysInYear, DayFromYear, TimeFromYear, yearEstimate, YearFromTime, DayWithinYear, leapOf, InLeapYear, monthOf, MonthFromTime, dateOf, DateFromTime, WeekDay, HourFromTime, MinFromTime, SecFromTime, msFromTime}
+use Rattle.ecma262.specs.Date.{Day, TimeWithinDay, DaysInYear, DayFromYear, TimeFromYear, yearEstimate, YearFromTime, DayWithinYear, InLeapYear, monthOf, MonthFromTime, dateOf, DateFromTime, WeekDay, HourFromTime, MinFromTime, SecFromTime, msFromTime}
 use Rattle.ecma262.specs.Domain.{Shown}
-use Rattle.ecma262.proofs.Int.{plus, minus, ints, abs-in, abs-out, mod-small, Term, value, at, _+ᵗ_, _-ᵗ_, _*ᵗ_, _ᵗ*_, _/ᵗ_, read}
+use Rattle.ecma262.proofs.Int.{plus, minus, ints, abs-in, abs-out, mod-small, Term, value, at, _+ᵗ_, _-ᵗ_, _*ᵗ_, _/ᵗ_, read}
 use Rattle.ecma262.proofs.Fields.{yearDay, year-day, year-day-small, date-small}
 use Rattle.ecma262.proofs.Leap.{leap-small}
 use Rattle.ecma262.proofs.Clock.{week-day-small}
-use Rattle.ecma262.proofs.Range.{year-range, estimate-range, day-range, time-range}
+use Rattle.ecma262.proofs.Range.{year-range, estimate-range, time-range}
 use Rattle.float.specs.Whole.{IsWhole}
-use Rattle.float.specs.Rounding.{floorF, remEuclidF}
+use Rattle.float.specs.Rounding.{floorF}
 use Rattle.float.proofs.Whole.{ofInt-whole, add-whole, sub-whole, mul-whole}
 use Rattle.float.proofs.Bounds.{floorMod-lt}
 use Rattle.float.proofs.Quotient.{floor-div}

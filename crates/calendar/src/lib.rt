@@ -5,7 +5,7 @@ ghost use Prim.Native.Nat.{_+_, _<_, _≤_};
 ghost use lib.IntN.{pos, negsuc};
 ghost use lib.Signed.{_≤ℤ_};
 ghost use Rattle.ecma262.specs.Date.{daysBefore, monthOf};
-ghost use Rattle.calendar.specs.Calendar.{dayF, timeWithinDayF, daysInYearF, yearsBy, dayFromYearF, timeFromYearF, wrap32, yearEstimateF, yearFromTimeF, dayWithinYearF, inLeapYearF, monthFromTimeF, dateFromTimeF, weekDayF, hourFromTimeF, minFromTimeF, secFromTimeF, msFromTimeF};
+ghost use Rattle.calendar.specs.Calendar.{dayF, timeWithinDayF, daysInYearF, dayFromYearF, timeFromYearF, wrap32, yearEstimateF, yearFromTimeF, dayWithinYearF, inLeapYearF, monthFromTimeF, dateFromTimeF, weekDayF, hourFromTimeF, minFromTimeF, secFromTimeF, msFromTimeF};
 
 // HoursPerDay, MinutesPerHour, SecondsPerMinute
 const HOURS_PER_DAY: f64 = 24.0;

@@ -1,16 +1,12 @@
 -- What the doors' records say is the plain equation, and both halves of a whole number's word. Assumes nothing.
-use mathlib.Core.Path.{_≡_, refl, sym, ap, subst, _∙_}
-use mathlib.Core.Bool.{true, false, true≢false}
+use mathlib.Core.Path.{_≡_, refl, ap, subst, _∙_}
 use mathlib.Core.List.{List}
 use Prim.Native.Nat.{ℕ, _-_}
 use native.Mathlib.Omega.{arith}
-use lib.Dec.{T}
 use lib.Ieee.{Float, binary64, ofBits, toBits}
 use lib.IntN.{ℤ, pos, negsuc, natAbs, _-ℤ_}
 use lib.Seq.{sets}
 use lib.Signed.{_≤ℤ_, _<ℤ_}
-use mir.Syntax.{w64}
-use mir.Val.{SFits}
 use Rattle.ecma262.proofs.Int.{ints}
 use Rattle.ecma262.proofs.Machine.{flip}
 use Rattle.zone.specs.Bytes.{littleEndian}

@@ -1,7 +1,6 @@
 // Test doors to what stands below the C interface, so that it is compared with the original on its own: an f64 crosses as its bits, a whole number in
 // two's complement, a truth as 0 or 1, digits as bytes with the first lowest. The archive of this crate is for the differential run alone.
 ghost use mathlib.Core.Path.{_≡_};
-ghost use mathlib.Core.Bool.{Bool};
 ghost use Prim.Native.Nat.{_+_, _%_, _^_};
 ghost use lib.Ieee.{Float, binary64, ofBits, toBits, toUnsigned, toSigned};
 ghost use Rattle.ecma262.specs.Digits.{digits};
@@ -9,7 +8,7 @@ ghost use Rattle.float.specs.Rounding.{floorF, truncF, absF, copysignF, remEucl
 ghost use Rattle.calendar.specs.Calendar.{dayF, timeWithinDayF, daysInYearF, dayFromYearF, timeFromYearF, yearFromTimeF, dayWithinYearF, inLeapYearF, monthFromTimeF, dateFromTimeF, weekDayF, hourFromTimeF, minFromTimeF, secFromTimeF, msFromTimeF};
 ghost use Rattle.make.specs.Make.{makeTimeF, makeDayF, makeDateF, makeFullYearF, timeClipF};
 ghost use Rattle.zone.specs.Bytes.{signed};
-ghost use Rattle.zone.specs.Zone.{accepts, records, offsetAt};
+ghost use Rattle.zone.specs.Zone.{records, offsetAt};
 ghost use Rattle.local.specs.Local.{offsetSecondsF, localTimeF, utcF};
 ghost use Rattle.fast_atoi.specs.Join.{moved, join4, join8};
 ghost use Rattle.doors.specs.Door.{Given, Handed, Whole, Packed, word, underList};

@@ -4,7 +4,7 @@ use mathlib.Core.List.{List, [], _∷_, _++_}
 use Prim.Native.Nat.{ℕ, zero, suc, _+_, _*_, _/_, _%_, _^_, _≤_, _<_}
 use mathlib.Core.List.{append-nil, append-assoc}
 use native.Mathlib.Nat.{add-zero, add-suc, div-one, pow-suc, div-div-eq-div-mul, mul-assoc, mul-comm, div-add-mod', mod-lt, pow-le-pow-right, div-lt-iff-lt-mul}
-use native.Mathlib.Omega.{arith, div-fact, mod-fact}
+use native.Mathlib.Omega.{arith}
 use lib.Arith.{mod-mul, digits-div as quotient-of, digits-mod as rest-of}
 use lib.ListN.{length, length-append}
 use Rattle.ecma262.specs.Digits.{digit, digits}

@@ -1,14 +1,11 @@
 -- floorDiv and floorMod are what their names say, for every divisor d + 1. Assumes nothing.
-use mathlib.Core.Path.{_≡_, refl, sym, ap, _∙_}
-use mathlib.Core.Bool.{Bool, not}
-use Prim.Native.Nat.{ℕ, zero, suc, _+_, _*_, _≤_, _<_}
+use mathlib.Core.Path.{_≡_, sym, ap, _∙_}
+use Prim.Native.Nat.{ℕ, suc, _+_, _*_, _≤_, _<_}
 use native.Mathlib.Nat.{mul-le-mul-left}
-use native.Mathlib.Omega.{arith}
-use lib.Dec.{T}
 use lib.IntN.{ℤ, pos, negsuc, _+ℤ_, _-ℤ_, _*ℤ_}
 use lib.Signed.{ltZ, _≤ℤ_, _<ℤ_, ltZ-yes, ltZ-no}
 use Rattle.ecma262.specs.Whole.{floorDiv, floorMod}
-use Rattle.ecma262.proofs.Int.{plus, minus, ints, lt-in, add-fact, div-mod-fact, by-test, natural, Term, at, _+ᵗ_, _-ᵗ_, _*ᵗ_, read}
+use Rattle.ecma262.proofs.Int.{plus, minus, ints, lt-in, add-fact, div-mod-fact, by-test, natural, at, _+ᵗ_, _-ᵗ_, _*ᵗ_, read}
 
 -- z = d * floor(z / d) + (z modulo d), and the remainder is below d
 pub division : (z : ℤ) (k : ℕ) → (z ≡ pos (suc k) *ℤ floorDiv z (suc k) +ℤ pos (floorMod z (suc k))) × (floorMod z (suc k) < suc k)

@@ -1,14 +1,14 @@
 -- The computed year is the one that the standard's search finds, and the only one; the mean-year estimate is that year or the one after it.
 -- The route: 400 * DayFromYear(y) lies within 1,095 of 146097 y - 287811596 (`day-bounds`), and all else is linear. Assumes nothing.
 use mathlib.Core.Path.{_≡_, refl, sym, ap, _∙_, subst}
-use mathlib.Core.Bool.{Bool, true, false, not, cond}
+use mathlib.Core.Bool.{cond}
 use mathlib.Core.Logic.{_⊎_, inl, inr}
-use Prim.Native.Nat.{ℕ, zero, suc, _+_, _*_, _-_, _/_, _%_, _≤_, _<_}
+use Prim.Native.Nat.{ℕ, suc, _+_, _*_, _-_, _/_, _≤_}
 use native.Mathlib.Omega.{arith}
 use lib.IntN.{ℤ, pos, negsuc, _+ℤ_, _-ℤ_, _*ℤ_, -ℤ-+ℤ-cancel}
 use lib.Signed.{ltZ, leZ, _≤ℤ_, _<ℤ_, ltZ-yes, ltZ-no, ≤ℤ-refl}
 use Rattle.ecma262.specs.Whole.{floorDiv, floorMod}
-use Rattle.ecma262.specs.Date.{DaysInYear, DayFromYear, TimeFromYear, IsYearFromTime, yearEstimate, YearFromTime}
+use Rattle.ecma262.specs.Date.{DayFromYear, TimeFromYear, IsYearFromTime, yearEstimate, YearFromTime}
 use Rattle.ecma262.proofs.Int.{plus, minus, ints, by-test, by-cond, Term, at, _+ᵗ_, _-ᵗ_, _*ᵗ_, _/ᵗ_, read}
 
 -- DayFromYear(y), as a term to read

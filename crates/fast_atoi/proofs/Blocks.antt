@@ -1,10 +1,10 @@
 -- Bytes as one number, the first lowest: one byte more at the end, zero bytes before, and the block of a number's digits moved up. Assumes
 -- nothing.
-use mathlib.Core.Path.{_≡_, refl, sym, ap, subst, _∙_}
+use mathlib.Core.Path.{_≡_, sym, ap, subst, _∙_}
 use mathlib.Core.List.{List, [], _∷_, _++_}
 use Prim.Native.Nat.{ℕ, zero, suc, _+_, _-_, _*_, _/_, _%_, _^_, _≤_, _<_}
 use native.Mathlib.Omega.{arith}
-use native.Mathlib.Nat.{pow-suc, pow-le-pow-right, mul-assoc, mul-comm, mul-add, mul-le-mul-left, mul-lt-mul-of-pos-right, mod-eq-of-lt}
+use native.Mathlib.Nat.{pow-suc, pow-le-pow-right, mul-assoc, mul-comm, mul-le-mul-left, mul-lt-mul-of-pos-right, mod-eq-of-lt}
 use lib.ListN.{length, replicate}
 use Rattle.ecma262.specs.Digits.{digit, digits}
 use Rattle.ecma262.proofs.Digits.{length-digits}

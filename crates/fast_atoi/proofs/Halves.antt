@@ -1,8 +1,8 @@
 -- A product modulo K * K from the halves of its factors, at any K: the sums are wrapped, and the upper half of the cross
 -- products falls away.
 -- Assumes nothing.
-use mathlib.Core.Path.{_≡_, ap, sym, _∙_}
-use Prim.Native.Nat.{ℕ, _+_, _*_, _/_, _%_, _≤_, _<_}
+use mathlib.Core.Path.{_≡_, ap}
+use Prim.Native.Nat.{ℕ, _+_, _*_, _/_, _%_, _<_}
 use native.Mathlib.Nat.{add-mul, mul-add, mul-assoc, mul-right-comm, mul-mul-mul-comm, div-add-mod', add-mul-mod-self-right, mod-mod-of-dvd, dvd-mul-right, lt-of-le-of-lt, mul-le-mul-left, le-of-lt, mul-lt-mul-of-pos-right}
 use native.Mathlib.Omega.{arith}
 

@@ -1,12 +1,10 @@
 -- On digit bytes `process_4` and `process_8` are the number: the bytes that print v in w digits are joined to v. Each product adds a
 -- neighbour ten, a hundred or ten thousand times; what passes the top of the block, and what is shifted out below, is no part of the
 -- result. Assumes nothing.
-use mathlib.Core.Path.{_≡_, refl, sym, ap, _∙_}
-use mathlib.Core.List.{List, [], _∷_}
-use Prim.Native.Nat.{ℕ, zero, suc, _+_, _-_, _*_, _/_, _%_, _^_, _≤_, _<_}
+use mathlib.Core.Path.{_≡_, refl, ap, _∙_}
+use mathlib.Core.List.{[], _∷_}
+use Prim.Native.Nat.{ℕ, zero, suc, _+_, _*_, _/_, _%_, _^_, _≤_, _<_}
 use native.Mathlib.Omega.{arith}
-use native.Mathlib.Nat.{mod-eq-of-lt}
-use lib.Bits.{bitAnd}
 use lib.Arith.{digits-mod, digits-div}
 use Rattle.ecma262.specs.Digits.{digits}
 use Rattle.fast_atoi.specs.Join.{fromLeBytes, moved, pairs4, join4, pairs8, fours8, join8}

@@ -1,23 +1,23 @@
 -- The accepted set: a text is read as a form exactly when the form, within its bounds, prints the text; so the form is unique, and no
 -- accepted text is longer than 32 bytes. Assumes nothing.
-use mathlib.Core.Path.{_≡_, refl, sym, ap, _∙_}
+use mathlib.Core.Path.{_≡_, refl, sym, ap}
 use mathlib.Core.Logic.{_↔_}
 use mathlib.Core.Bool.{Bool, true, false, cond}
-use mathlib.Core.List.{List, [], _∷_, _++_, append-assoc, append-nil}
-use Prim.Native.Nat.{ℕ, _+_, _≤_, _<_}
+use mathlib.Core.List.{List, [], _∷_, _++_, append-nil}
+use Prim.Native.Nat.{ℕ, _+_, _≤_}
 use native.Mathlib.Omega.{arith}
 use lib.Dec.{eqb}
 use lib.ListN.{length, length-append}
-use borrow.Author.Tests.{eqb-true, eqb-false, eq-eqb, ne-eqb}
-use Rattle.ecma262.specs.Format.{Year, Date, Time, Zone, Form, prints, printsYear, printsDate, printsTime, printsZone, timeHour, timeMinute, timeSecond, timeMs, YearBounds, DateBounds, TimeBounds, ZoneBounds, Bounds, Writes}
+use borrow.Author.Tests.{eqb-true, eq-eqb}
+use Rattle.ecma262.specs.Format.{Year, Date, Time, Zone, Form, prints, printsYear, printsDate, printsTime, printsZone, timeHour, timeMinute, timeSecond, timeMs, TimeBounds, Bounds, Writes}
 use Rattle.ecma262.specs.Format.Year.{four, six}
 use Rattle.ecma262.specs.Format.Date.{toYear, toMonth, toDay}
 use Rattle.ecma262.specs.Format.Time.{toSecond, toDecimals}
 use Rattle.ecma262.specs.Format.Zone.{absent, zulu, toHour}
 use Rattle.ecma262.specs.Format.Form.{date, timed}
 use Rattle.parser.specs.declared.Fault.the-variants.{Range}
-use Rattle.parser.specs.Reading.{Out, ok, fault, Reader, readYear, readDate, readTime, readZone, Reading, form, refused, finally, hourAllowed, timeAllowed, afterDate, afterZone, ending, timePart, rest, read}
-use Rattle.parser.proofs.Stages.{Part, Clock, year-read, date-read, time-read, zone-read, year-written, date-written, time-written, zone-written, zone-start}
+use Rattle.parser.specs.Reading.{Out, ok, fault, Reader, readYear, readDate, readTime, readZone, Reading, form, refused, finally, hourAllowed, timeAllowed, afterDate, ending, timePart, rest, read}
+use Rattle.parser.proofs.Stages.{Clock, year-read, date-read, time-read, zone-read, year-written, date-written, time-written, zone-written, zone-start}
 
 -- ---- hour 24
 

@@ -7,7 +7,7 @@ use Prim.Native.Nat.{ℕ}
 use Prim.Native.String as string
 use Prim.Native.Char.{code}
 use lib.Dec.{T, eqb}
-use Rattle.ecma262.specs.Format.{Form, Zone}
+use Rattle.ecma262.specs.Format.{Zone}
 use Rattle.ecma262.specs.Format.Year.{four, six}
 use Rattle.ecma262.specs.Format.Date.{toYear, toMonth, toDay}
 use Rattle.ecma262.specs.Format.Time.{toMinute, toSecond, toDecimals}

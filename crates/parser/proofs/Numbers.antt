@@ -5,12 +5,12 @@ use mathlib.Core.List.{List, [], _∷_, _++_}
 use Prim.Native.Nat.{ℕ, zero, suc, _+_, _-_, _*_, _/_, _%_, _^_, _≤_, _<_}
 use native.Mathlib.Nat.{pow-suc, mul-assoc, mul-comm, add-mul, div-add-mod', mod-lt}
 use native.Mathlib.Omega.{arith}
-use lib.Dec.{leb, eqb}
-use borrow.Author.Tests.{le-leb, leb-true, leb-false}
+use lib.Dec.{leb}
+use borrow.Author.Tests.{le-leb, leb-true}
 use Rattle.ecma262.specs.Digits.{digits}
 use Rattle.ecma262.proofs.Digits.{digits-cons, digits-split, first-digit, ten-pos}
-use Rattle.parser.specs.declared.Fault.the-variants.{Short, Bad, Range}
-use Rattle.parser.specs.Reading.{Out, ok, fault, digitsAfter, within, field, after}
+use Rattle.parser.specs.declared.Fault.the-variants.{Short, Bad}
+use Rattle.parser.specs.Reading.{ok, fault, digitsAfter, within, field, after}
 
 -- what n digits that write w make of the digits v before them
 grown : (n v d w : ℕ) → (10 * v + d) * 10 ^ n + w ≡ v * 10 ^ suc n + (d * 10 ^ n + w)

@@ -7,7 +7,7 @@ use Prim.Native.Nat.{ℕ, zero, suc, _+_, _-_, _*_, _≤_, _<_}
 use native.Mathlib.Omega.{arith}
 use native.Mathlib.Decide.{decLe}
 use lib.Dec.{leb, eqb}
-use lib.ListN.{length, take, drop, length-take, take-append-drop}
+use lib.ListN.{length, take, drop, take-append-drop}
 use lib.Seq.{take-all, length-take-le}
 use Rattle.ecma262.specs.Format.{Year, Date, Time, Zone}
 use Rattle.ecma262.specs.Format.Year.{four, six}
@@ -15,7 +15,7 @@ use Rattle.ecma262.specs.Format.Date.{toYear, toMonth, toDay}
 use Rattle.ecma262.specs.Format.Time.{toSecond, toDecimals}
 use Rattle.ecma262.specs.Format.Zone.{absent, zulu, toHour}
 use Rattle.parser.specs.declared.Fault.the-variants.{Short, Bad, Range}
-use Rattle.parser.specs.Reading.{Out, ok, fault, Reader, bind, after, give, choose, byte, isDigit, digitsAfter, within, field, signedYear, fourDigits, readYear, readDay, readDate, readDecimals, readSecond, readTime, readOffsetMinute, readOffset, readZone, Reading, form, refused, finally, afterDate, afterZone, ending, timePart, rest, read}
+use Rattle.parser.specs.Reading.{Out, ok, fault, Reader, bind, after, give, choose, byte, isDigit, digitsAfter, within, field, signedYear, readYear, readDay, readDate, readDecimals, readSecond, readTime, readOffsetMinute, readOffset, readZone, Reading, refused, finally, afterDate, ending, timePart, rest, read}
 
 -- an outcome, with t after what is left
 abbrev longer : {A : Type 0} → List ℕ → Out A → Out A

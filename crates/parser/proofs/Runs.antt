@@ -1,8 +1,8 @@
 -- A run of digits read one by one, at a place of the text: what the two loops keep. Assumes nothing.
 use mathlib.Core.Path.{_≡_, refl, sym, ap, subst, _∙_}
-use mathlib.Core.List.{List, [], _∷_}
+use mathlib.Core.List.{List, _∷_}
 use Prim.Native.Nat.{ℕ, zero, suc, _+_, _-_, _*_, _/_, _%_, _^_, _≤_, _<_}
-use native.Mathlib.Numerals.{add-one, sub-one}
+use native.Mathlib.Numerals.{add-one}
 use native.Mathlib.Nat.{pow-suc, pow-le-pow-right, mul-le-mul-right, mod-eq-of-lt}
 use lib.Pow.{pow-add}
 use native.Mathlib.Omega.{arith}
@@ -13,7 +13,7 @@ use Rattle.ecma262.specs.Digits.{digit, digits}
 use Rattle.fast_atoi.specs.Join.{fromLeBytes}
 use Rattle.fast_atoi.proofs.Blocks.{from-digits, from-small}
 use Rattle.parser.specs.declared.Fault.the-variants.{Short, Bad}
-use Rattle.parser.specs.Reading.{Out, ok, fault, digitsAfter}
+use Rattle.parser.specs.Reading.{ok, fault, digitsAfter}
 use Rattle.parser.specs.Answer.{Reads, IsDigits}
 
 -- the byte at a place, and those from the next place

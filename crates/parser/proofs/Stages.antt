@@ -1,10 +1,9 @@
 -- Each stage reads exactly what its part of a form prints, within its bounds: what was read is printed before what is left, and what is
 -- printed is read. Assumes nothing.
-use mathlib.Core.Path.{_≡_, refl, sym, ap, _∙_}
+use mathlib.Core.Path.{_≡_, refl, ap, _∙_}
 use mathlib.Core.Bool.{Bool, true, false, cond}
-use mathlib.Core.List.{List, [], _∷_, _++_, append-assoc, append-nil}
-use mathlib.Core.Logic.{_⊎_, inl, inr, ⊎-elim}
-use Prim.Native.Nat.{ℕ, _+_, _*_, _/_, _%_, _^_, _≤_, _<_}
+use mathlib.Core.List.{List, [], _∷_, _++_}
+use Prim.Native.Nat.{ℕ, _+_, _^_, _≤_, _<_}
 use native.Mathlib.Omega.{arith}
 use lib.Dec.{eqb, leb}
 use borrow.Author.Tests.{eqb-true, eqb-false, eq-eqb, ne-eqb, leb-true}
@@ -15,7 +14,7 @@ use Rattle.ecma262.specs.Format.Date.{toYear, toMonth, toDay}
 use Rattle.ecma262.specs.Format.Time.{toSecond, toDecimals}
 use Rattle.ecma262.specs.Format.Zone.{absent, zulu, toHour}
 use Rattle.parser.specs.declared.Fault.the-variants.{Short, Bad, Range}
-use Rattle.parser.specs.Reading.{Out, ok, fault, Reader, bind, after, give, choose, byte, digitsAfter, within, field, signedYear, fourDigits, readYear, readDay, readDate, readDecimals, readSecond, readTime, readOffsetMinute, readOffset, readZone}
+use Rattle.parser.specs.Reading.{Out, ok, fault, Reader, bind, after, give, choose, byte, digitsAfter, within, field, signedYear, readYear, readDay, readDate, readDecimals, readSecond, readTime, readOffsetMinute, readOffset, readZone}
 use Rattle.parser.proofs.Numbers.{Number, number-read, number-written, Field, field-written}
 
 -- ---- what a step read. Each takes what follows of it to any conclusion C

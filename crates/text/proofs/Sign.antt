@@ -1,15 +1,12 @@
 -- What is said of a year or an offset as it is read back from its bits holds of the number. Assumes nothing.
-use mathlib.Core.Path.{_≡_, sym, ap, subst}
-use mathlib.Core.Bool.{true, false}
+use mathlib.Core.Path.{subst}
 use mathlib.Core.List.{List}
 use Prim.Native.Nat.{ℕ, _+_, _≤_, _<_}
 use native.Mathlib.Omega.{arith}
-use lib.Dec.{T}
 use lib.ListN.{length}
-use lib.IntN.{ℤ, pos, negsuc, natAbs, _-ℤ_}
-use lib.Signed.{nonNeg, ltZ, _≤ℤ_, _<ℤ_}
+use lib.IntN.{ℤ, natAbs}
 use mir.Syntax.{w32}
-use mir.Val.{Fits, SFits, toZ, ofZ}
+use mir.Val.{SFits, toZ, ofZ}
 use mir.Facts.{toZ-ofZ}
 use Rattle.ecma262.specs.Texts.{timeZoneString}
 use Rattle.ecma262.proofs.Int.{abs-in}

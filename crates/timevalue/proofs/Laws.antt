@@ -1,17 +1,16 @@
 -- What `timeValueOf` says of 64 bits: `Time t` is a whole number t of the range, not -0, with the value of the bits; `Nan` is a pattern of
 -- NaN; `Refused` is neither. Each whole number of the range, by its bits, is that time. Assumes nothing.
 use mathlib.Core.Path.{_≡_, refl, sym, ap, _∙_, subst}
-use mathlib.Core.Bool.{Bool, true, false, cond, not, _&&_, _||_, Bool·beq, true≢false, false≢true}
-use Prim.Native.Nat.{ℕ, _*_, _≤_, _<_, _^_}
-use native.Mathlib.Nat.{mul-one, mul-right-comm, zero-mul, eq-of-mul-eq-mul-right, le-trans}
+use mathlib.Core.Bool.{Bool, true, false, cond, _&&_, _||_, Bool·beq, true≢false, false≢true}
+use Prim.Native.Nat.{ℕ, _*_, _<_}
+use native.Mathlib.Nat.{mul-one, mul-right-comm, eq-of-mul-eq-mul-right, le-trans}
 use native.Mathlib.Omega.{arith}
 use lib.Dec.{T, lit≤, eqb, eqb→eq, leb→le, le→leb}
-use lib.IntN.{ℤ, pos, natAbs}
+use lib.IntN.{ℤ, pos}
 use lib.Signed.{leZ-yes}
-use lib.Ieee.{Float, nan, inf, fin, binary64, up, down, level, ofBits, toBits, ofInt, eq, le, lt, isNan, fits}
+use lib.Ieee.{Float, nan, inf, fin, binary64, up, down, level, ofBits, toBits, ofInt, eq, le, isNan, fits}
 use lib.Ieee.Bits.{ofBits-toBits, ofBits-fits, is-false}
 use lib.Ieee.Fits.{ofInt-fits, and-l, and-r, down-pos}
-use lib.Ieee.Exact.{HasValue}
 use Rattle.ecma262.specs.Date.{timeRange, InRange}
 use Rattle.float.specs.Whole.{signed, IsWhole, truncZ, plain}
 use Rattle.float.specs.Rounding.{truncF, absF}

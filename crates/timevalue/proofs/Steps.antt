@@ -1,9 +1,8 @@
 -- What each way through `time_value` answers, by its tests. Assumes nothing.
-use mathlib.Core.Path.{_≡_, refl, sym, ap, ap₂, _∙_}
+use mathlib.Core.Path.{_≡_, refl, sym, _∙_}
 use mathlib.Core.Bool.{Bool, true, false, cond, _&&_}
-use lib.Dec.{T}
 use lib.IntN.{pos}
-use lib.Ieee.{Float, binary64, ofInt, eq, le, ne, isNan}
+use lib.Ieee.{Float, binary64, ofInt, eq, le, ne}
 use Rattle.ecma262.specs.Date.{timeRange}
 use Rattle.float.specs.Rounding.{truncF, absF}
 use Rattle.float.proofs.Special.{nan-test}

@@ -1,6 +1,5 @@
 // The zone list, which stands for Boa's hook `local_timezone_offset_seconds` (context/hooks.rs): lent bytes, 12 a record.
 ghost use mathlib.Core.Path.{_≡_};
-ghost use mathlib.Core.Bool.{Bool};
 ghost use Prim.Native.Nat.{_+_, _-_, _*_, _/_, _≤_, _<_};
 ghost use lib.Dec.{leb};
 ghost use lib.IntN.{natAbs};

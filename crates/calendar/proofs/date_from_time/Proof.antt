@@ -1,7 +1,7 @@
 -- `calendar::date_from_time` meets its contract: the day of the year, less those before its month. Assumes nothing.
 use borrow.Author.Needs.{needs}
-use mathlib.Core.Path.{_≡_, refl, sym, ap, ap₂, _∙_, subst}
-use Prim.Native.Nat.{ℕ, _%_, _≤_, _<_}
+use mathlib.Core.Path.{refl, sym, ap, ap₂, _∙_, subst}
+use Prim.Native.Nat.{ℕ, _%_, _≤_}
 use lib.IntN.{pos, natAbs}
 use Rattle.ecma262.specs.Date.{monthOf, dateOf}
 use Rattle.calendar.specs.Calendar.{monthFromTimeF, dateFromTimeF}

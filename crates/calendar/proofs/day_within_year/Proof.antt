@@ -1,8 +1,8 @@
 -- `calendar::day_within_year` meets its contract. Assumes nothing.
 use borrow.Author.Needs.{needs}
-use mathlib.Core.Path.{_≡_, sym, ap, _∙_}
+use mathlib.Core.Path.{ap, _∙_}
 use lib.IntN.{ℤ}
-use lib.Ieee.{Float, binary64, sub, ofInt, toUnsigned}
+use lib.Ieee.{binary64, sub, ofInt, toUnsigned}
 use Rattle.ecma262.proofs.Machine.{kept}
 use Rattle.calendar.specs.Calendar.{dayFromYearF, dayWithinYearF}
 use Rattle.calendar.proofs.Step.{of-32}

@@ -3,8 +3,6 @@ use borrow.Author.Needs.{needs}
 use Rattle.calendar.proofs.Table.{entries, entry}
 use Rattle.calendar.proofs.days_before.Statement.{statement}
 use Rattle.calendar.proofs.days_before.Tie as tie
-use Rattle.calendar.proofs.days_before.Reads as reads
-use Rattle.calendar.proofs.days_before.Lts as lts
 
 -- src/lib.rt:110:18
 mul-result : tie.Need-mul-result

@@ -1,6 +1,6 @@
 -- `calendar::in_leap_year` meets its contract. Assumes nothing.
 use borrow.Author.Needs.{needs}
-use mathlib.Core.Path.{_≡_, sym, ap, _∙_}
+use mathlib.Core.Path.{sym, ap, _∙_}
 use lib.IntN.{ℤ}
 use mathlib.Core.Bool.{cond}
 use Prim.Native.Nat.{ℕ}

@@ -1,16 +1,13 @@
 -- `calendar::month_of_day` meets its contract. Assumes nothing.
 use borrow.Author.Needs.{needs}
 use borrow.Author.Tests.{lt-ltb, le-ltb}
-use mathlib.Core.Path.{_≡_, sym, ap, _∙_, subst}
+use mathlib.Core.Path.{sym, ap, _∙_, subst}
 use mathlib.Core.Bool.{cond}
 use Prim.Native.Nat.{_+_, _/_, _≤_, _<_}
 use native.Mathlib.Omega.{arith}
 use Rattle.calendar.proofs.Table.{month-by-32, month-late}
 use Rattle.calendar.proofs.month_of_day.Statement.{statement}
 use Rattle.calendar.proofs.month_of_day.Tie as tie
-use Rattle.calendar.proofs.month_of_day.Reads as reads
-use Rattle.calendar.proofs.month_of_day.Lts as lts
-use Rattle.calendar.proofs.days_before.Reads as days-before-reads
 
 -- src/lib.rt:120:9
 returns : tie.Need-returns

@@ -1,8 +1,7 @@
 -- `calendar::ms_from_time` meets its contract. Assumes nothing.
 use borrow.Author.Needs.{needs}
-use mathlib.Core.Path.{_≡_, sym, ap, _∙_}
-use lib.Ieee.{Float, binary64, add, sub, ofBits, ofInt, toUnsigned}
-use Rattle.float.specs.Rounding.{floorF, remEuclidF}
+use mathlib.Core.Path.{ap, _∙_}
+use lib.Ieee.{binary64, ofBits, ofInt, toUnsigned}
 use Rattle.calendar.specs.Calendar.{num, msFromTimeF}
 use Rattle.calendar.proofs.ms_from_time.Statement.{statement}
 use Rattle.calendar.proofs.ms_from_time.Tie as tie

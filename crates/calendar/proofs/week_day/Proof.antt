@@ -1,8 +1,8 @@
 -- `calendar::week_day` meets its contract. Assumes nothing.
 use borrow.Author.Needs.{needs}
-use mathlib.Core.Path.{_≡_, sym, ap, _∙_}
-use lib.Ieee.{Float, binary64, add, sub, ofBits, ofInt, toUnsigned}
-use Rattle.float.specs.Rounding.{floorF, remEuclidF}
+use mathlib.Core.Path.{ap, _∙_}
+use lib.Ieee.{Float, binary64, add, ofBits, ofInt, toUnsigned}
+use Rattle.float.specs.Rounding.{remEuclidF}
 use Rattle.calendar.specs.Calendar.{num, weekDayF}
 use Rattle.calendar.proofs.week_day.Statement.{statement}
 use Rattle.calendar.proofs.week_day.Tie as tie

@@ -1,21 +1,16 @@
 -- `calendar::wrap_i32` meets its contract: one step of 2^32 brings a number that is little out of range back into it. Assumes nothing.
-use mathlib.Core.Path.{_≡_, refl, sym, ap, _∙_, subst}
-use Prim.Native.Nat.{ℕ, _+_, _≤_}
-use native.Mathlib.Omega.{arith}
-use lib.IntN.{ℤ, pos, negsuc, natAbs, _+ℤ_, _-ℤ_}
+use mathlib.Core.Path.{_≡_, sym, ap, _∙_, subst}
+use Prim.Native.Nat.{_+_}
+use lib.IntN.{ℤ, pos, negsuc, _+ℤ_, _-ℤ_}
 use lib.Signed.{_≤ℤ_, _<ℤ_}
 use mir.Syntax.{w32, w64}
 use mir.Val.{SFits, toZ, ofZ}
-use mir.Facts.{toZ-ofZ}
 use Rattle.ecma262.specs.Whole.{floorMod}
-use Rattle.ecma262.proofs.Int.{plus, minus, ints, Term, at, _+ᵗ_, _-ᵗ_, _/ᵗ_, Facts, read}
+use Rattle.ecma262.proofs.Int.{ints, at, _+ᵗ_, _-ᵗ_, _/ᵗ_, Facts, read}
 use Rattle.ecma262.proofs.Machine.{fits32, fits64, lt-true, lt-false, kept, Cast, cast}
 use Rattle.calendar.specs.Calendar.{wrap32}
-use Rattle.calendar.proofs.Whole.{wrap-inside}
 use Rattle.calendar.proofs.wrap_i32.Statement.{statement}
 use Rattle.calendar.proofs.wrap_i32.Tie as tie
-use Rattle.calendar.proofs.wrap_i32.Reads as reads
-use Rattle.calendar.proofs.wrap_i32.Lts as lts
 
 -- ---- a number above the range, less 2^32; below it, and 2^32 more; and inside it
 module _ (x : ℤ) (f : SFits w64 x) (p : (negsuc 2147483648 ≤ℤ x) × (x ≤ℤ pos 2147485617)) where

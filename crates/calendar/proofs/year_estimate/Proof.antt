@@ -1,12 +1,12 @@
 -- `calendar::year_estimate` meets its contract. Assumes nothing.
 use borrow.Author.Needs.{needs}
-use mathlib.Core.Path.{_≡_, sym, ap, _∙_, subst}
+use mathlib.Core.Path.{sym, ap, _∙_, subst}
 use lib.IntN.{ℤ, pos, negsuc, _+ℤ_}
 use lib.Signed.{mag, _≤ℤ_}
-use lib.Ieee.{Float, binary64, add, ofBits, ofInt, toSigned}
+use lib.Ieee.{binary64, ofBits, ofInt, toSigned}
 use Prim.Native.Nat.{_<_}
 use mir.Syntax.{w32, w64}
-use Rattle.ecma262.proofs.Int.{plus, minus, ints, Term, at, _+ᵗ_, read}
+use Rattle.ecma262.proofs.Int.{ints, at, _+ᵗ_, read}
 use Rattle.ecma262.proofs.Machine.{kept, Widened}
 use Rattle.calendar.specs.Calendar.{num, wrap32, yearEstimateF}
 use Rattle.calendar.proofs.Step.{of-32, moved, in-32}

@@ -7,7 +7,7 @@ use mir.Syntax.{w32, w64}
 use lib.IntN.{ℤ, pos, negsuc, _-ℤ_}
 use lib.Signed.{mag, _≤ℤ_}
 use lib.Ieee.{Float, binary64, lt, ofInt}
-use Rattle.ecma262.proofs.Int.{plus, minus, ints, Term, at, _-ᵗ_, read}
+use Rattle.ecma262.proofs.Int.{ints, at, _-ᵗ_, read}
 use Rattle.ecma262.proofs.Machine.{kept, Widened}
 use Rattle.calendar.specs.Calendar.{timeFromYearF, wrap32, yearEstimateF, yearFromTimeF}
 use Rattle.calendar.proofs.Step.{of-32, moved, in-32}

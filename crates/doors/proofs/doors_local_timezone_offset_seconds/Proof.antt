@@ -8,7 +8,7 @@ use mir.Syntax.{w32}
 use mir.Facts.{toZ-ofZ}
 use Rattle.doors.specs.Door.{word}
 use Rattle.local.specs.Local.{offsetSecondsF}
-use Rattle.zone.specs.Zone.{accepts, records}
+use Rattle.zone.specs.Zone.{accepts}
 use Rattle.zone.proofs.Rule.{accepts-sound}
 use Rattle.doors.proofs.Lists.{refused, accepted}
 use Rattle.doors.proofs.doors_local_timezone_offset_seconds.Statement.{statement}

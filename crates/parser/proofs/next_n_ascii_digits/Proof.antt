@@ -1,7 +1,6 @@
 -- `next_n_ascii_digits` gathers the digits that the definition reads. The loop keeps their block, one byte more at each turn. Assumes nothing.
 use Prim.Native.Nat.{_-_}
 use borrow.Author.Needs.{needs}
-use native.Mathlib.Omega.{arith}
 use Rattle.parser.proofs.Runs.{Gathered, gathered-none, gathered-room, runs, gathers}
 use Rattle.parser.proofs.next_n_ascii_digits.Statement.{statement}
 use Rattle.parser.proofs.next_n_ascii_digits.Tie as tie
