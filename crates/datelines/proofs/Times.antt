@@ -23,8 +23,9 @@ use Rattle.timevalue.proofs.Laws.{time-back}
 use Rattle.answer.specs.Answer.{timeBits}
 use Rattle.answer.specs.declared.Refusal.the-variants.{Output}
 use Rattle.answer.specs.declared.Reply.the-variants.{Time, Text}
-use Rattle.writer.specs.Outcome.{refused, written}
-use Rattle.writer.specs.Writer.{isoCase, isoOutcome}
+use Rattle.writer.specs.Outcome.{written}
+use Rattle.writer.specs.Writer.{isoOutcome}
+use Rattle.writer.proofs.Outcomes.{written-whole, iso-writes}
 use Rattle.reader.specs.Outcome.{readOutcome}
 use Rattle.reader.proofs.Denotation.{accepted-exactly, reads-instant}
 use Rattle.datelines.specs.Lines.{isoOfBits, IsTimeBits}
@@ -49,13 +50,10 @@ module _ {bits : ℕ} (b : IsTimeBits bits) where
 
   pub iso-outcome : (out : List ℕ) → length (isoOfBits bits) ≤ length out
       → isoOutcome bits out ≡ record { reply = Text bits (length (isoOfBits bits)); output = isoOfBits bits ++ drop (length (isoOfBits bits)) out }
-  unfolding isoOfBits isoOutcome written
+  unfolding isoOfBits
   iso-outcome out l =
-      ap (λ (n : ℕ). isoOutcome n out) (b .bits-are)
-      ∙ ap (λ (g : Given). isoCase g out) (time-back (b .time) (b .inside))
-      ∙ ap₂ (λ (n : ℕ) (z : ℤ). written n (isoText z) out) (sym (b .bits-are)) (truncZ-whole whole ∙ sym whole-time)
-      ∙ ap (λ (c : Bool). cond c (refused Output out) (record { reply = Text bits (length (isoOfBits bits)); output = isoOfBits bits ++ drop (length (isoOfBits bits)) out }))
-      (le-ltb (length out) (length (isoOfBits bits)) l)
+      ap (λ (n : ℕ). isoOutcome n out) (b .bits-are) ∙ iso-writes (b .time) (b .inside) out
+      ∙ ap₂ (λ (n : ℕ) (z : ℤ). written n (isoText z) out) (sym (b .bits-are)) (sym whole-time) ∙ written-whole bits (isoOfBits bits) out l
 
 -- the reader's times are of the range
 pub read-bits : (zone text : List ℕ) (bits : ℕ) → readOutcome zone text ≡ Time bits → IsTimeBits bits

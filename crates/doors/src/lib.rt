@@ -32,17 +32,6 @@ fn word32(z: i32) -> u64
     word(z as i64)
 }
 
-// A word as a whole number.
-fn signed64(x: u64) -> i64
-    ensures { λ r. ⌜ r ≡ signed 64 x ⌝ }
-{
-    if x < 0x8000_0000_0000_0000 {
-        x as i64
-    } else {
-        -1 - ((0xffff_ffff_ffff_ffff - x) as i64)
-    }
-}
-
 // ---- f64's own methods and saturating casts
 
 #[no_mangle]
@@ -277,7 +266,7 @@ pub extern "C" fn doors_zone_offset(zone: &[u8], second: u64) -> u64
     if !zone::accept(zone) {
         return 0;
     }
-    word32(zone::lookup(zone, signed64(second)))
+    word32(zone::lookup(zone, zone::signed64(second)))
 }
 
 #[no_mangle]

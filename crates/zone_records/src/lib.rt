@@ -1,8 +1,7 @@
 // The zone list as "a lent run of records, each a second and an offset": a slice of records, searched as the bytes are, through one definition.
 ghost use mathlib.Core.Path.{_≡_};
-ghost use Prim.Native.Nat.{ℕ, _+_, _*_, _-_, _/_, _^_, _<_, _≤_};
+ghost use Prim.Native.Nat.{_+_, _*_, _/_, _≤_};
 ghost use lib.ListN.{length, take};
-ghost use Rattle.zone.specs.Bytes.{signed};
 ghost use Rattle.zone.specs.Zone.{recordAt, records, IsZoneList, Accepted, offsetAt};
 ghost use Rattle.zone_records.specs.Slice.{asRecord, asRecords};
 
@@ -38,26 +37,14 @@ pub fn lookup_first(all: [ZoneRecord; 1024], n: usize, second: i64) -> i32
     lookup(&all[..n], second)
 }
 
-// Two's complement, over the width: `half` is the first number that stands for one below zero.
-fn signed(x: u64, half: u64) -> i64
-    requires { ⌜ (half ≤ 2 ^ 63) × ((0 < half) × (x < half + half)) ⌝ }
-    ensures { λ r. ⌜ ((bits : ℕ) → 2 ^ (bits - 1) ≡ half → 2 ^ bits ≡ half + half → r ≡ signed bits x) ⌝ }
-{
-    if x < half {
-        x as i64
-    } else {
-        -1 - ((half - 1 - (x - half)) as i64)
-    }
-}
-
-// Record i of bytes.
+// Record i of bytes, as the byte form reads it.
 fn record_at(zone: &[u8], i: usize) -> ZoneRecord
     requires { ⌜ 12 * i + 12 ≤ length (now zone) ⌝ }
     ensures { λ r. ⌜ asRecord r ≡ recordAt (now (zone .entry)) i ⌝ }
 {
     ZoneRecord {
-        second: signed(zone::u64_at(zone, 12 * i), 0x8000_0000_0000_0000),
-        offset: signed(zone::u32_at(zone, 12 * i + 8) as u64, 0x8000_0000) as i32,
+        second: zone::second_at(zone, i),
+        offset: zone::offset_at(zone, i),
     }
 }
 

@@ -7,8 +7,7 @@ use denote.Ref.{now}
 use mir.Syntax.{w32, w64}
 use mir.Facts.{toZ-ofZ}
 use Rattle.doors.specs.Door.{word}
-use Rattle.zone.specs.Zone.{offsetAt}
-use Rattle.zone.specs.Zone.{accepts}
+use Rattle.zone.specs.Zone.{offsetAt, accepts}
 use Rattle.zone.proofs.Rule.{accepts-sound}
 use Rattle.doors.proofs.Lists.{refused, accepted}
 use Rattle.doors.proofs.doors_zone_offset.Statement.{statement}
