@@ -1,11 +1,10 @@
 -- Bits of a time of the range: the whole number that they stand for, the ISO writer's outcome on them, and that the reader answers no others.
 -- Assumes nothing.
 use mathlib.Core.Path.{_≡_, sym, ap, ap₂, _∙_}
-use mathlib.Core.Bool.{Bool, cond}
+use mathlib.Core.Bool.{cond}
 use mathlib.Core.List.{List, _++_}
 use Prim.Native.Nat.{ℕ, _^_, _≤_, _<_}
 use native.Mathlib.Omega.{arith}
-use borrow.Author.Tests.{le-ltb}
 use lib.IntN.{ℤ, pos, negsuc}
 use lib.Signed.{mag}
 use lib.ListN.{length, drop}
@@ -18,10 +17,7 @@ use Rattle.float.specs.Whole.{IsWhole, truncZ}
 use Rattle.float.proofs.Whole.{ofInt-whole}
 use Rattle.float.proofs.Rounding.{truncZ-whole}
 use Rattle.float.proofs.Casts.{toSigned-whole}
-use Rattle.timevalue.specs.declared.TimeValue.{TimeValue as Given}
-use Rattle.timevalue.proofs.Laws.{time-back}
 use Rattle.answer.specs.Answer.{timeBits}
-use Rattle.answer.specs.declared.Refusal.the-variants.{Output}
 use Rattle.answer.specs.declared.Reply.the-variants.{Time, Text}
 use Rattle.writer.specs.Outcome.{written}
 use Rattle.writer.specs.Writer.{isoOutcome}

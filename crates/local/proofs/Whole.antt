@@ -7,7 +7,7 @@ use native.Mathlib.Omega.{arith}
 use lib.Dec.{lit<, lit≤}
 use lib.IntN.{ℤ, pos, negsuc, natAbs, _-ℤ_, _*ℤ_}
 use lib.Signed.{mag}
-use lib.Ieee.{Float, nan, binary64, ofInt}
+use lib.Ieee.{Float, binary64, ofInt}
 use lib.Ieee.Bits.{is-true}
 use lib.Ieee.Scale.{finite}
 use Rattle.ecma262.specs.Whole.{floorDiv, floorMod}
@@ -20,7 +20,6 @@ use Rattle.float.proofs.Rounding.{whole-finite}
 use Rattle.float.proofs.Modulo.{rem-euclid-whole}
 use Rattle.float.proofs.Quotient.{div-exact}
 use Rattle.float.proofs.Casts.{toSigned-whole}
-use Rattle.float.proofs.Special.{add-nan-left}
 use Rattle.calendar.proofs.Whole.{num-whole}
 use Rattle.zone.specs.Zone.{Record, IsZoneList, offsetAt}
 use Rattle.zone.proofs.Offset.{offset-bounded}
@@ -103,8 +102,3 @@ module _ (list : List Record) (rule : IsZoneList list) (z : ℤ) where
     utc-whole {t} w =
         subst (λ (x : Float). IsWhole x (utcTime list z)) (sym (utc-finite list t (is-true (finite t) (whole-finite w))))
         (sub-whole binary64 w (shift-whole w) (omega (arith, utc-time-bound h)))
-
--- ---- NaN stays NaN
-pub local-time-nan : (list : List Record) → localTimeF list nan ≡ nan
-unfolding localTimeF
-local-time-nan list = add-nan-left binary64 (shiftF list nan)

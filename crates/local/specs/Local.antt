@@ -1,5 +1,6 @@
--- Local time under a zone list: the original's `local_timezone_offset_seconds`, `local_time` and `utc_t` in whole numbers and on f64. That the second is the first
--- on whole times are laws (proofs/Whole.antt). The list is decoded: its records, crates/zone. Definitions only. Assumes nothing.
+-- Local time under a zone list: the original's `local_timezone_offset_seconds`, `local_time` and `utc_t` in whole numbers and on f64. That
+-- on whole times the two agree is a law (proofs/Whole.antt). The list is decoded: its records, crates/zone. Definitions only. Assumes
+-- nothing.
 use mathlib.Core.Bool.{cond}
 use mathlib.Core.List.{List}
 use lib.IntN.{ℤ, pos, _+ℤ_, _-ℤ_, _*ℤ_}
@@ -21,8 +22,8 @@ askedSecond t = floorDiv t msPerSecond
 unfoldable pub offsetOfInstant : List Record → ℤ → ℤ
 offsetOfInstant list t = offsetAt list (askedSecond t)
 
--- The offset of a local time, for the reader, the builder and the setters: "that offset is the one the list gives at the local time read as an instant,
--- as in `utc_t`". The standard searches for instants.
+-- The offset of a local time, for the reader, the builder and the setters: "that offset is the one the list gives at the local time read as
+-- an instant, as in `utc_t`". The standard searches for instants.
 unfoldable pub offsetOfLocal : List Record → ℤ → ℤ
 offsetOfLocal list t = offsetOfInstant list t
 

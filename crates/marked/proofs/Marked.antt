@@ -1,4 +1,4 @@
--- THE THEOREM of document 01's table "Marked to be proved", "checked together, as one fact about the definitions over the whole table":
+-- The theorem of document 01's table "Marked to be proved", "checked together, as one fact about the definitions over the whole table":
 -- every row passes, computed by the checker from the definitions. Assumes nothing.
 use lib.Dec.{T}
 use lib.Count.{ones}

@@ -1,10 +1,5 @@
--- What a caller of `parse` cites: its answer is fixed by the reading, and an accepted text's fields are within bounds. Assumes nothing.
+-- "Can two programs keep it and differ?" Not the contract of `parse`: two answers with the same reading are equal. Assumes nothing.
 use mathlib.Core.Path.{_≡_, refl, sym, ap, _∙_}
-use mathlib.Core.Bool.{true, false}
-use mathlib.Core.List.{List}
-use Prim.Native.Nat.{ℕ, zero, suc, _≤_}
-use native.Mathlib.Omega.{arith}
-use lib.IntN.{natAbs}
 use Rattle.ecma262.specs.Format as format
 use Rattle.parser.specs.declared.Fault.{Fault}
 use Rattle.parser.specs.declared.Year.{Year}
@@ -19,9 +14,8 @@ use Rattle.parser.specs.declared.Form.{Form}
 use Rattle.parser.specs.declared.Form.the-variants as F
 use Rattle.parser.specs.declared.Parsed.{Parsed}
 use Rattle.parser.specs.declared.Parsed.the-variants as P
-use Rattle.parser.specs.Reading.{Reading, form, refused, read}
-use Rattle.parser.specs.Answer.{asYear, asDate, asTime, asZone, asForm, asReading}
-use Rattle.parser.proofs.Accepts.{read-printed}
+use Rattle.parser.specs.Reading.{Reading, form, refused}
+use Rattle.parser.specs.Answer.{asYear, asDate, asTime, asZone, asReading}
 
 -- ---- the code's value of a form, and back: no two answers say the same
 
@@ -80,54 +74,5 @@ answer-reading (P.Read (F.Date y d)) = rw (year-value y, date-value d)
 answer-reading (P.Read (F.Timed y d t z)) = rw (year-value y, date-value d, time-value t, zone-value z)
 answer-reading (P.Refused f) = refl
 
--- two answers of which the contract of `parse` holds on one text are equal
 pub answer-unique : (r q : Parsed) → asReading r ≡ asReading q → r ≡ q
 answer-unique r q e = sym (answer-reading r) ∙ ap answer e ∙ answer-reading q
-
--- ---- an accepted text
-
--- the answer `Read f`: f writes the text
-pub accepted-writes : (text : List ℕ) (r : Parsed) (f : Form) → asReading r ≡ read text → r ≡ P.Read f → format.Writes (asForm f) text
-accepted-writes text r f h e = read-printed text (asForm f) (sym h ∙ ap asReading e)
-
--- its fields
-pub record Fields (f : format.Form) : Type 0 where
-  pub year-to : natAbs (format.year f) ≤ 999999
-  pub month-from : 1 ≤ format.month f
-  pub month-to : format.month f ≤ 12
-  pub day-from : 1 ≤ format.day f
-  pub day-to : format.day f ≤ 31
-  pub hour-to : format.hour f ≤ 24
-  pub minute-to : format.minute f ≤ 59
-  pub second-to : format.second f ≤ 59
-  pub ms-to : format.ms f ≤ 999
-
-year-to : (y : format.Year) → format.YearBounds y → natAbs (format.yearNumber y) ≤ 999999
-year-to (format.Year.four y) b = omega arith
-year-to (format.Year.six true zero) b = omega arith
-year-to (format.Year.six true (suc y)) b = b .1
-year-to (format.Year.six false y) b = b
-
-pub fields : (f : format.Form) → format.Bounds f → Fields f
-fields (format.Form.date y d) b = record {
-  year-to = year-to y (b .0);
-  month-from = b .1 .month-from;
-  month-to = b .1 .month-to;
-  day-from = b .1 .day-from;
-  day-to = b .1 .day-to;
-  hour-to = omega arith;
-  minute-to = omega arith;
-  second-to = omega arith;
-  ms-to = omega arith;
-}
-fields (format.Form.timed y d t z) b = record {
-  year-to = year-to y (b .0);
-  month-from = b .1 .month-from;
-  month-to = b .1 .month-to;
-  day-from = b .1 .day-from;
-  day-to = b .1 .day-to;
-  hour-to = b .2 .hour-to;
-  minute-to = b .2 .minute-to;
-  second-to = b .2 .second-to;
-  ms-to = b .2 .ms-to;
-}

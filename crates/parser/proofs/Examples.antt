@@ -12,7 +12,8 @@ use Rattle.ecma262.specs.Format.Year.{four, six}
 use Rattle.ecma262.specs.Format.Date.{toYear, toMonth, toDay}
 use Rattle.ecma262.specs.Format.Time.{toMinute, toSecond, toDecimals}
 use Rattle.ecma262.specs.Format.Form.{date, timed}
-use Rattle.parser.specs.Reading.{number, after, give, choose, byte, digitsAfter, within, signedYear, readYear, readDay, readDate, readDecimals, readSecond, readTime, readOffsetMinute, readOffset, readZone, Reading, form, refused, ending, timePart, rest, read}
+use Rattle.parser.specs.declared.Fault.the-variants.{Short, Bad, Range, Trailing}
+use Rattle.parser.specs.Reading.{after, give, choose, byte, digitsAfter, within, signedYear, readYear, readDay, readDate, readDecimals, readSecond, readTime, readOffsetMinute, readOffset, readZone, Reading, form, refused, ending, timePart, rest, read}
 
 -- the bytes of an ASCII text
 abbrev bytes : string.String → List ℕ
@@ -40,7 +41,10 @@ data Row : Type 0 where
 
 numberOf : Reading → ℕ
 numberOf (form f) = 0
-numberOf (refused f) = number f
+numberOf (refused Short) = 5
+numberOf (refused Bad) = 6
+numberOf (refused Range) = 7
+numberOf (refused Trailing) = 8
 
 every : List Row → Bool
 every [] = true

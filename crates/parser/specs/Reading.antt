@@ -14,13 +14,6 @@ use Rattle.ecma262.specs.Format.Form.{date, timed}
 use Rattle.parser.specs.declared.Fault.{Fault}
 use Rattle.parser.specs.declared.Fault.the-variants.{Short, Bad, Range, Trailing}
 
--- 01's number of each fault
-abbrev pub number : Fault → ℕ
-number Short = 5
-number Bad = 6
-number Range = 7
-number Trailing = 8
-
 -- what was read and the bytes that are left, or why not
 pub data Out (A : Type 0) : Type 0 where
   ok : A → List ℕ → Out A

@@ -14,7 +14,7 @@ use Rattle.zone.proofs.Numbers.{signed-low, signed-high}
 use Rattle.zone.proofs.Rule.{records-length}
 use Rattle.zone_records.specs.declared.ZoneRecord.{ZoneRecord}
 use Rattle.zone_records.specs.Slice.{asRecord, asRecords}
-use Rattle.zone_records.specs.Encoded.{bytesThen, unsigned, encoded, Machine}
+use Rattle.zone_records.specs.Encoded.{bytesThen, unsigned, encoded, Representable}
 use Rattle.zone_records.proofs.Same.{same-lookup}
 
 -- ---- n bytes, and what stands after them
@@ -105,21 +105,21 @@ encoded-length [] = refl
 encoded-length (z ∷ zs) =
     omega (arith, after-length 8 (unsigned 64 (z .second)) (tail z zs), after-length 4 (unsigned 32 (z .offset)) (encoded zs), encoded-length zs)
 
-listed-back : (zs : List ZoneRecord) → Machine zs → listed (length zs) (recordAt (encoded zs)) ≡ asRecords zs
+listed-back : (zs : List ZoneRecord) → Representable zs → listed (length zs) (recordAt (encoded zs)) ≡ asRecords zs
 listed-back [] m = refl
 listed-back (z ∷ zs) m =
     λ j. first-back z zs (m .0) (m .1 .0) j ∷ (listed-same (length zs) _ _ (next-back z zs) ∙ listed-back zs (m .1 .1)) j
 
-pub encoded-records : (zs : List ZoneRecord) → Machine zs → records (encoded zs) ≡ asRecords zs
+pub encoded-records : (zs : List ZoneRecord) → Representable zs → records (encoded zs) ≡ asRecords zs
 unfolding records
 encoded-records zs m =
     let size : length (encoded zs) / 12 ≡ length zs = omega (arith, encoded-length zs) in
     ap (λ (n : ℕ). listed n (recordAt (encoded zs))) size ∙ listed-back zs m
 
 -- a slice that satisfies the rule is an accepted list in bytes, and the two lookups agree on it
-pub encoded-accepted : (zs : List ZoneRecord) → Machine zs → IsZoneList (asRecords zs) → Accepted (encoded zs)
+pub encoded-accepted : (zs : List ZoneRecord) → Representable zs → IsZoneList (asRecords zs) → Accepted (encoded zs)
 encoded-accepted zs m rule =
     record { whole = omega (arith, encoded-length zs, records-length (encoded zs)); rule = subst IsZoneList (sym (encoded-records zs m)) rule }
 
-pub encoded-lookup : (zs : List ZoneRecord) → Machine zs → (t r s : ℤ) → r ≡ offsetAt (records (encoded zs)) t → s ≡ offsetAt (asRecords zs) t → s ≡ r
+pub encoded-lookup : (zs : List ZoneRecord) → Representable zs → (t r s : ℤ) → r ≡ offsetAt (records (encoded zs)) t → s ≡ offsetAt (asRecords zs) t → s ≡ r
 encoded-lookup zs m = same-lookup (encoded zs) zs (encoded-records zs m)

@@ -21,6 +21,6 @@ encoded [] = []
 encoded (z ∷ zs) = bytesThen 8 (unsigned 64 (z .second)) (bytesThen 4 (unsigned 32 (z .offset)) (encoded zs))
 
 -- what every slice of records keeps: a second has 64 bits and an offset 32
-abbrev pub Machine : List ZoneRecord → Type 0
-Machine [] = Unit {0}
-Machine (z ∷ zs) = (mag (z .second) < 2 ^ 63) × ((mag (z .offset) < 2 ^ 31) × Machine zs)
+abbrev pub Representable : List ZoneRecord → Type 0
+Representable [] = Unit {0}
+Representable (z ∷ zs) = (mag (z .second) < 2 ^ 63) × ((mag (z .offset) < 2 ^ 31) × Representable zs)
