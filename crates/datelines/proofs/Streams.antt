@@ -25,7 +25,7 @@ use Rattle.reader.specs.Outcome.{answerOf, readOutcome}
 use Rattle.datelines.specs.Lines.{acceptedLine, refusedLine, answerLine, lineOf, lastOf, answersFrom, answers, behind, prints, emitted, left, answersOfChunks, joined, isoOfBits}
 use Rattle.datelines.proofs.Decimal.{within, signed-length}
 
--- THE PREFIX: "no accepted text is longer than 32 bytes, so a bounded prefix decides"
+-- the prefix: no accepted text is longer than 32 bytes, so the first 33 decide
 pub line-prefix : (n : ℕ) (text : List ℕ) → 33 ≤ n → lineOf (take n text) ≡ lineOf text
 unfolding lineOf readOutcome
 line-prefix n text h =
@@ -139,7 +139,7 @@ module _ (rest : List ℕ) (goes : List ℕ → List ℕ) (same : (line : List �
       ∙ ap (λ (t : List ℕ). prints (take 33 line) b ++ t) (by-chunk c (cond (eqb b 10) [] (line ++ (b ∷ []))))
       ∙ one-byte line (c ++ rest) b
 
--- THE STREAM: wherever an input is cut into chunks, they print the answers to its lines
+-- The stream: wherever an input is cut into chunks, they print the answers to its lines
 pub by-chunks : (cs : List (List ℕ)) (line : List ℕ) → answersOfChunks (take 33 line) cs ≡ answersFrom line (joined cs)
 unfolding answersOfChunks answersFrom
 by-chunks [] line = last-kept line

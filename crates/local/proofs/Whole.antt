@@ -82,7 +82,7 @@ module _ (list : List Record) (rule : IsZoneList list) (z : ℤ) where
   unfolding utcTime offsetOfLocal
   utc-time-bound h = abs-out (utcTime list z) (omega (arith, abs-in z h, abs-in shift shift-small, read (at z -ᵗ at shift)))
 
-  -- "Local writers at the range's ends show local times up to 86,399 s beyond it"
+  -- the local writer shows local times up to 86,399 s beyond the range
   pub local-time-shown : InRange z → Shown (localTime list z)
   local-time-shown h = local-time-bound h
 

@@ -4,7 +4,7 @@
 --   isoText t            the text that denotes t                                                   crates/ecma262/specs/Texts.antt
 --   Written w            a text "of 01's written form"                                            crates/ecma262/specs/Written.antt
 --   Denotes zone w t     "denotes t by demand 2's definition"                                     crates/reader/specs/Denotes.antt
---   Accepted zone        "an accepted zone list"                                                  crates/zone/specs/Zone.antt
+--   Accepted zone        an "accepted zone list"                                                  crates/zone/specs/Zone.antt
 --   AcceptedText zone w  a text "accepted under it"                                               crates/reader/specs/Denotes.antt
 --   runOf o              "the bytes a call writes"                                                crates/rewrite/specs/Rewrite.antt
 -- "Demand 3 is about outputs at least as long as the text to be written." The proofs rest on proofs/Runs.antt and what it cites.

@@ -119,7 +119,7 @@ unsigned-taken x f w = go (eq x (ofInt binary64 (pos 0))) refl
     go true e = taken x (ofInt binary64 (pos 0)) (subst (IsWhole x) (eq-yes (w .whole) zero-is e) (w .whole)) (lit≤ tt) zero-is (ofInt-fits binary64 (pos 0)) zero-taken
     go false e = taken x x (w .whole) (w .range) (w .whole) f (plain-nonzero (w .whole) (eq-no (w .whole) zero-is e))
 
--- THE LAW: the three answers, and when each is given
+-- The law: the three answers, and when each is given
 pub data Judged (bits : ℕ) : Type 0 where
   is-time : (t : Float) → timeValueOf bits ≡ Time t → Taken (ofBits binary64 bits) t → Judged bits
   is-nan : timeValueOf bits ≡ Nan → ofBits binary64 bits ≡ nan → Judged bits
