@@ -216,6 +216,12 @@ pub fn field(r: &mut Random, bound: i64, low: i64, high: i64) -> f64 {
             1e18,
             1e300,
             9_007_199_254_740_991.0,
+            // the ends of the fields of which a date is made in integers
+            262_143.0,
+            262_143.999,
+            262_144.0,
+            11.999,
+            12.0,
         ]),
         _ => r.between(low, high) as f64,
     }

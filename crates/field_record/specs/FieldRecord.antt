@@ -5,10 +5,12 @@ use mathlib.Core.Bool.{Bool, true, cond}
 use mathlib.Core.List.{List}
 use Prim.Native.Nat.{ℕ, _+_, _*_, _/_, _%_, _^_, _<_}
 use lib.Count.{ones}
-use lib.Dec.{eqb, leb}
+use lib.Dec.{eqb, leb, ltb}
+use lib.IntN.{natAbs}
 use lib.ListN.{length, getD}
 use lib.Ieee.{Float, binary64, ofBits}
 use Rattle.zone.specs.Bytes.{littleEndian}
+use Rattle.float.specs.Whole.{truncZ}
 
 -- the byte of bit map
 abbrev pub mapOf : List ℕ → ℕ
@@ -37,6 +39,14 @@ fieldAt bytes i = ofBits binary64 (littleEndian 8 bytes (placeOf bytes i))
 -- what bit i's field is, with a value for an absent one
 unfoldable pub fieldOr : List ℕ → ℕ → Float → Float
 fieldOr bytes i absent = cond (stands bytes i) (fieldAt bytes i) absent
+
+-- The whole part of bit i's field where that lies from 0 to below 262,144, whose pattern it is, and 262,144 where it does not; then with a value
+-- for an absent field. Below 262,144 it is a small field: of such the builder and the setters make dates in integers.
+unfoldable pub smallAt : List ℕ → ℕ → ℕ
+smallAt bytes i = cond (ltb (littleEndian 8 bytes (placeOf bytes i)) 0x4110_0000_0000_0000) (natAbs (truncZ (fieldAt bytes i))) 262_144
+
+unfoldable pub smallOr : List ℕ → ℕ → ℕ → ℕ
+smallOr bytes i absent = cond (stands bytes i) (smallAt bytes i) absent
 
 -- what reading a field rests on: a record of the right length, and the place of the bit's field
 pub record IsPlace (bytes : List ℕ) (i at : ℕ) : Type 0 where

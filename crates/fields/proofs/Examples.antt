@@ -5,7 +5,7 @@ use mathlib.Core.List.{List, [], _∷_, _++_}
 use Prim.Native.Nat.{ℕ, zero, suc, _/_, _%_}
 use lib.Count.{ones}
 use lib.Dec.{T, eqb}
-use lib.Ieee.{binary64, isNan, ofBits, toBits, ofInt, eq, le, lt, add, sub, mul, div, rem, toUnsigned, toSigned}
+use lib.Ieee.{isNan, ofBits, toBits, ofInt, eq, le, lt, add, sub, mul, div, rem, toUnsigned, toSigned}
 use Rattle.ecma262.specs.Date.{monthOf, dateOf, daysBefore}
 use Rattle.float.specs.Whole.{floorZ, truncZ}
 use Rattle.float.specs.Rounding.{truncF, floorF, absF, copysignF, remEuclidF, toIntegerOrInfinity}
@@ -18,8 +18,8 @@ use Rattle.timevalue.specs.TimeValue.{timeValueOf, isTime}
 use Rattle.field_record.specs.FieldRecord.{hasLength, hasOtherBit, placeOf, fieldAt, fieldOr}
 use Rattle.answer.specs.declared.Reply.{Reply}
 use Rattle.answer.specs.Answer.{replyOf}
-use Rattle.fields.specs.Calls.{Call, setMilliseconds, setSeconds, setMinutes, setHours, setDate, setMonth, setFullYear, absent, newDate, valueFrom, valueOfNan}
-use Rattle.fields.specs.Outcome.{buildOutcome, setOutcome}
+use Rattle.new_date.specs.Calls.{Call, setMilliseconds, setSeconds, setMinutes, setHours, setDate, setMonth, setFullYear, absent, newDate, valueFrom}
+use Rattle.fields.specs.Outcome.{valueOfNan, buildOutcome, setOutcome}
 
 -- n bytes of x, low byte first
 low : ℕ → ℕ → List ℕ

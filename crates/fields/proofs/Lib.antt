@@ -1,6 +1,5 @@
+pub mod Starts
 pub mod Rows
-pub mod Setters
-pub mod Exact
 pub mod Values
 pub mod Outcomes
 mod Examples

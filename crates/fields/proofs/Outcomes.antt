@@ -4,35 +4,34 @@ use mathlib.Core.Path.{_≡_, refl, sym, ap, _∙_, subst}
 use mathlib.Core.Bool.{Bool, true, false, not, cond, _&&_}
 use mathlib.Core.List.{List, []}
 use Prim.Native.Nat.{ℕ, _<_}
-use native.Mathlib.Omega.{arith}
 use lib.Dec.{lit≤}
 use lib.IntN.{ℤ, pos}
-use lib.Ieee.{Float, nan, binary64, ofBits, toBits, ofInt}
+use lib.Ieee.{Float, nan, binary64, ofBits}
 use lib.Ieee.Scale.{finite}
 use Rattle.ecma262.specs.Date.{InRange}
-use Rattle.ecma262.specs.Domain.{Shown}
 use Rattle.float.specs.Whole.{IsWhole, truncZ}
 use Rattle.float.proofs.Rounding.{number-unique, truncZ-whole}
 use Rattle.calendar.specs.Calendar.{num}
 use Rattle.calendar.proofs.Whole.{num-whole}
 use Rattle.make.specs.Make.{IsTimeValue, timeValue}
-use Rattle.zone.specs.Zone.{Record, IsZoneList, Accepted, accepts, records}
+use Rattle.zone.specs.Zone.{Accepted, accepts, records}
 use Rattle.zone.proofs.Rule.{accepts-complete}
 use Rattle.timevalue.specs.declared.TimeValue.{TimeValue}
 use Rattle.timevalue.specs.declared.TimeValue.the-variants as given
-use Rattle.timevalue.specs.TimeValue.{IsTime, timeValueOf}
-use Rattle.timevalue.proofs.Laws.{Taken, Judged, is-time, is-nan, is-refused, judge}
+use Rattle.timevalue.specs.TimeValue.{timeValueOf}
+use Rattle.timevalue.proofs.Laws.{Judged, is-time, is-nan, is-refused, judge}
 use Rattle.field_record.specs.FieldRecord.{stands, hasLength, hasOtherBit, fieldAt}
 use Rattle.answer.specs.declared.Refusal.{Refusal}
 use Rattle.answer.specs.declared.Refusal.the-variants as fault
 use Rattle.answer.specs.declared.Reply.{Reply}
 use Rattle.answer.specs.declared.Reply.the-variants as reply
-use Rattle.fields.specs.Calls.{Call, build, setMilliseconds, setSeconds, setMinutes, setHours, setDate, setMonth, setFullYear, bitsOf, shiftIn, absent, newDate, valueFrom, valueOfNan, valueOf}
-use Rattle.fields.specs.Outcome.{refuse, isRefused, zoneRow, timeRow, recordRows, timeReply, buildOutcome, setOutcome}
-use Rattle.fields.specs.Standard.{shiftInZ, valueFromZ, Exact, Passes}
+use Rattle.new_date.specs.Calls.{Call, build, setMilliseconds, setSeconds, setMinutes, setHours, setDate, setMonth, setFullYear, bitsOf, shiftIn, absent, newDate, valueFrom}
+use Rattle.fields.specs.Outcome.{valueOfNan, valueOf, refuse, isRefused, zoneRow, timeRow, recordRows, timeReply, buildOutcome, setOutcome}
+use Rattle.new_date.specs.Standard.{shiftInZ, valueFromZ, Exact, Passes}
 use Rattle.fields.proofs.Rows.{start-whole, build-row}
-use Rattle.fields.proofs.Exact.{value-exact}
-use Rattle.fields.proofs.Values.{from-time-value, of-time-value, argument-nan, given-nan, first-nan, utc-no-list}
+use Rattle.new_date.proofs.Exact.{value-exact}
+use Rattle.new_date.proofs.Values.{from-time-value, given-nan, first-nan}
+use Rattle.fields.proofs.Values.{of-time-value, utc-no-list}
 
 -- ---- past the rows
 list-row : (local : Bool) (zone : List ℕ) → (local ≡ true → Accepted zone) → (local && not (accepts zone)) ≡ false

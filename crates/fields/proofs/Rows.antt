@@ -3,15 +3,15 @@
 use mathlib.Core.Path.{_≡_, refl, sym, ap, _∙_, subst}
 use mathlib.Core.Bool.{Bool, true, false, not, cond, _&&_, true≢false, false≢true}
 use mathlib.Core.List.{List}
-use Prim.Native.Nat.{ℕ, _≤_}
+use Prim.Native.Nat.{ℕ}
 use native.Mathlib.Nat.{le-trans}
 use native.Mathlib.Omega.{arith}
-use lib.Dec.{lit≤}
+use lib.Dec.{T, lit≤}
 use lib.IntN.{ℤ}
 use lib.Ieee.{Float, nan}
 use Rattle.ecma262.specs.Date.{InRange}
 use Rattle.ecma262.specs.Domain.{Shown}
-use Rattle.float.specs.Whole.{IsWhole, truncZ}
+use Rattle.float.specs.Whole.{IsWhole, truncZ, plain}
 use Rattle.float.proofs.Rounding.{truncZ-whole}
 use Rattle.zone.specs.Zone.{Record, IsZoneList, Accepted, accepts, records}
 use Rattle.zone.proofs.Rule.{accepts-sound}
@@ -22,18 +22,37 @@ use Rattle.timevalue.proofs.Laws.{Taken, Judged, is-time, is-nan, is-refused, j
 use Rattle.field_record.specs.FieldRecord.{hasLength, hasOtherBit}
 use Rattle.local.proofs.Whole.{local-time-whole, local-time-shown}
 use Rattle.parts.specs.Parts.{Takes}
-use Rattle.answer.specs.declared.Refusal.{Refusal}
 use Rattle.answer.specs.declared.Refusal.the-variants as fault
 use Rattle.answer.specs.declared.Reply.{Reply}
 use Rattle.answer.specs.declared.Reply.the-variants as reply
 use Rattle.calendar.specs.Calendar.{num}
-use Rattle.fields.specs.Calls.{Call, build, setMilliseconds, setSeconds, setMinutes, setHours, setDate, setMonth, setFullYear, bitsOf, shiftIn, valueFrom, valueOfNan, valueOf}
-use Rattle.fields.specs.Outcome.{isRefused, timeReply, buildOutcome, setOutcome}
-use Rattle.fields.specs.Standard.{shiftInZ}
-use Rattle.fields.specs.Steps.{nanStart, startOf, started, Ready}
-use Rattle.fields.proofs.Setters.{zero-takes}
+use Rattle.new_date.specs.Calls.{Call, build, setMilliseconds, setSeconds, setMinutes, setHours, setDate, setMonth, setFullYear, bitsOf, shiftIn, valueFrom}
+use Rattle.fields.specs.Outcome.{valueOfNan, valueOf, isRefused, timeReply, buildOutcome, setOutcome}
+use Rattle.new_date.specs.Standard.{shiftInZ}
+use Rattle.new_date.specs.Steps.{Ready}
+use Rattle.fields.specs.Steps.{nanStart, startOf, started}
+use Rattle.fields.proofs.Starts.{zero-takes}
 use Rattle.fields.specs.declared.Start.{Start}
 use Rattle.fields.specs.declared.Start.the-variants.{From, Nan, Refused}
+
+-- ---- a time that the bits stand for
+abbrev isTimeOf : TimeValue → Bool
+isTimeOf (given.Time t) = true
+isTimeOf given.Nan = false
+isTimeOf given.Refused = false
+
+pub time-of : (time : ℕ) (t : Float) → timeValueOf time ≡ given.Time t → IsTime t × T (plain t)
+time-of time t e = go (judge time)
+  where
+    none : {A : Type 0} {v : TimeValue} → v ≡ given.Time t → isTimeOf v ≡ false → A
+    none {v = given.Time u} p q = absurd (true≢false q)
+    none {v = given.Nan} p q = absurd (true≢false (ap isTimeOf (sym p)))
+    none {v = given.Refused} p q = absurd (true≢false (ap isTimeOf (sym p)))
+
+    go : Judged time → IsTime t × T (plain t)
+    go (is-time u q k) = let same : given.Time u ≡ given.Time t = sym q ∙ e in let at : u ≡ t = cc in subst (λ (x : Float). IsTime x × T (plain x)) at (k .time, k .not-minus-zero)
+    go (is-nan q k) = none (sym q ∙ e) refl
+    go (is-refused q j k) = none (sym q ∙ e) refl
 
 -- ---- the rows of a setter
 module _ (call : Call) (local : Bool) (zone : List ℕ) (time : ℕ) (fields : List ℕ) where

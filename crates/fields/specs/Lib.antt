@@ -1,4 +1,2 @@
-pub mod Calls
 pub mod Outcome
-pub mod Standard
 pub mod Steps

@@ -8,16 +8,34 @@ use Rattle.answer.specs.declared.Refusal.{Refusal}
 use Rattle.answer.specs.declared.Refusal.the-variants as fault
 use Rattle.answer.specs.declared.Reply.{Reply}
 use Rattle.answer.specs.declared.Reply.the-variants.{Time, Refused}
-use Rattle.zone.specs.Zone.{accepts, records}
+use Rattle.calendar.specs.Calendar.{num}
+use Rattle.zone.specs.Zone.{Record, accepts, records}
 use Rattle.timevalue.specs.declared.TimeValue.{TimeValue}
 use Rattle.timevalue.specs.declared.TimeValue.the-variants as given
 use Rattle.timevalue.specs.TimeValue.{timeValueOf}
 use Rattle.field_record.specs.FieldRecord.{hasLength, hasOtherBit}
-use Rattle.fields.specs.Calls.{Call, build, bitsOf, valueFrom, valueOf}
+use Rattle.new_date.specs.Calls.{Call, build, setMilliseconds, setSeconds, setMinutes, setHours, setDate, setMonth, setFullYear, bitsOf, shiftIn, valueFrom}
 
 -- "this number exactly when its fault is the first met"
 abbrev pub refuse : Bool → Refusal → Reply → Reply
 refuse met number rest = cond met (Refused number) rest
+
+-- "Every setter but `set_full_year` gives NaN for NaN; that one starts from 0, with no local shift."
+unfoldable pub valueOfNan : Call → Bool → List Record → List ℕ → Float
+valueOfNan setFullYear local list fields = valueFrom setFullYear local list (num 0) fields
+valueOfNan build local list fields = nan
+valueOfNan setMilliseconds local list fields = nan
+valueOfNan setSeconds local list fields = nan
+valueOfNan setMinutes local list fields = nan
+valueOfNan setHours local list fields = nan
+valueOfNan setDate local list fields = nan
+valueOfNan setMonth local list fields = nan
+
+-- what a setter makes of a time value
+abbrev pub valueOf : Call → Bool → List Record → TimeValue → List ℕ → Float
+valueOf call local list (given.Time t) fields = valueFrom call local list (shiftIn local list t) fields
+valueOf call local list given.Nan fields = valueOfNan call local list fields
+valueOf call local list given.Refused fields = nan
 
 abbrev pub isRefused : TimeValue → Bool
 isRefused (given.Time t) = false

@@ -2,20 +2,20 @@
 -- Assumes nothing.
 use mathlib.Core.Path.{_≡_, sym, ap, ap₂, _∙_, subst}
 use Prim.Native.Nat.{ℕ, zero, suc, _-_, _*_, _/_, _%_, _^_, _≤_, _<_, min}
-use native.Mathlib.Nat.{mul-one, zero-mul, le-of-lt}
+use native.Mathlib.Nat.{le-of-lt}
 use native.Mathlib.Omega.{arith}
 use mathlib.Core.Bool.{Bool, true, false, not, _&&_, cond, true≢false, false≢true}
-use lib.IntN.{ℤ, pos, negℤ, natAbs, _+ℤ_, +ℤ-idr, pos-ne-negsuc}
+use lib.IntN.{ℤ, pos, negsuc, negℤ, natAbs, _+ℤ_, +ℤ-idr, pos-ne-negsuc}
 use lib.Signed.{mag}
-use lib.Dec.{T-not, T, ltb, leb, eqb, lt→ltb, le→leb}
-use lib.Ieee.{Float, nan, inf, fin, Format, binary64, prec, up, down, add, ofBits, toUnsigned, toSigned, whole, inUnsigned, inSigned}
+use lib.Dec.{T, ltb, leb, eqb, lt→ltb, le→leb}
+use lib.Ieee.{Float, nan, inf, fin, Format, binary64, prec, up, down, add, ofBits, toUnsigned, toSigned, whole, inSigned, inFloat}
 use lib.Pow.{pow-pos}
-use lib.Ieee.Fits.{down-pos, up-pos, eq→eqb, and-i}
+use lib.Ieee.Fits.{down-pos, eq→eqb, and-i}
 use lib.Ieee.Exact.{HasValue}
 use lib.Ieee.Scale.{finite}
 use Rattle.float.specs.Whole.{signed, IsWhole, truncZ, plain}
 use Rattle.float.proofs.Fractions.{cut, natAbs-signed}
-use Rattle.float.proofs.Whole.{size-is, zero-factor, add-whole, add-plain}
+use Rattle.float.proofs.Whole.{size-is, add-whole, add-plain}
 use Rattle.float.proofs.Literal.{zero-whole}
 
 -- ---- the integer that it is, -0 included
@@ -93,24 +93,6 @@ pub inSigned-whole : (f : Format) (h : ℕ) {x : Float} {z : ℤ} → IsWhole x 
 inSigned-whole f h {x} {z} w b r p =
     inSigned-value f h x (w .sign) (w .size) (w .value) (whole-whole f w b p) (small (w .sign) (w .size) (2 ^ h) (pow-pos h) (subst (λ (i : ℤ). mag i < 2 ^ h) (sym (w .is)) r))
 
-inUnsigned-value : (f : Format) (k : ℕ) (x : Float) (s : Bool) (n a : ℕ) → HasValue x s n 1 → T (whole f x) → T (plain x) → signed s n ≡ pos a → a < 2 ^ k → T (inUnsigned f k x)
-unfolding inUnsigned
-inUnsigned-value f k nan s n a v p l q r = absurd v
-inUnsigned-value f k (inf t) s n a v p l q r = absurd v
-inUnsigned-value f k (fin t m e) s n a v p l q r =
-    and-i (whole f (fin t m e)) (not t && ltb (m * up e / down e) (2 ^ k)) p
-    (go t s n (v .0) (cut (m * up e) (down e) n (down-pos e) (v .1) .0) l (v .1) q)
-  where
-    go : (t s : Bool) (n : ℕ) → t ≡ s → m * up e / down e ≡ n → T (not (t && eqb m 0)) → m * up e * 1 ≡ n * down e → signed s n ≡ pos a → T (not t && ltb (m * up e / down e) (2 ^ k))
-    go true true zero p c l v q = absurd (T-not (eqb m 0) l (eq→eqb (zero-factor m (up e) (up-pos e) (sym (mul-one (m * up e)) ∙ v ∙ zero-mul (down e)))))
-    go true true (suc n) p c l v q = absurd (pos-ne-negsuc a n (sym q))
-    go false false n p c l v q = lt→ltb (m * up e / down e) (2 ^ k) (subst (λ (i : ℕ). i < 2 ^ k) (sym (c ∙ ap natAbs q)) r)
-    go true false n p c l v q = absurd (true≢false p)
-    go false true n p c l v q = absurd (false≢true p)
-
-pub inUnsigned-whole : (f : Format) (k : ℕ) {x : Float} {a : ℕ} → IsWhole x (pos a) → a ≤ 2 ^ prec f → a < 2 ^ k → T (plain x) → T (inUnsigned f k x)
-inUnsigned-whole f k {x} {a} w b r p = inUnsigned-value f k x (w .sign) (w .size) a (w .value) (whole-whole f w b p) p (w .is) r
-
 -- ---- the cast of `x + 0.0`
 zero-plain : T (plain (ofBits binary64 0))
 unfolding ofBits
@@ -120,10 +102,6 @@ pub plus-zero : {x : Float} {z : ℤ} → IsWhole x z → natAbs z ≤ 2 ^ 53 �
 plus-zero {x} {z} w h =
     let b : natAbs (z +ℤ pos 0) ≤ 2 ^ 53 = subst (λ (i : ℤ). natAbs i ≤ 2 ^ 53) (sym (+ℤ-idr z)) h in
     (subst (IsWhole (add binary64 x (ofBits binary64 0))) (+ℤ-idr z) (add-whole binary64 w zero-whole b), add-plain binary64 w zero-whole b zero-plain)
-
-pub cast-unsigned : (k : ℕ) {x : Float} {n : ℕ} → IsWhole x (pos n) → n ≤ 2 ^ 53 → n < 2 ^ k
-    → T (inUnsigned binary64 k (add binary64 x (ofBits binary64 0))) × (toUnsigned k (add binary64 x (ofBits binary64 0)) ≡ n)
-cast-unsigned k w h s = let v = plus-zero w h in (inUnsigned-whole binary64 k (v .0) h s (v .1), toUnsigned-whole k (v .0) s)
 
 pub cast-signed : (h : ℕ) {x : Float} {z : ℤ} → IsWhole x z → natAbs z ≤ 2 ^ 53 → mag z < 2 ^ h
     → T (inSigned binary64 h (add binary64 x (ofBits binary64 0))) × (toSigned h (add binary64 x (ofBits binary64 0)) ≡ z)
@@ -139,3 +117,9 @@ toSigned-trunc h (fin s m e) F r = go s (subst (λ (i : ℕ). i < 2 ^ h) (natAbs
     go : (s : Bool) → m * up e / down e < 2 ^ h → cond s (negℤ (pos (min (m * up e / down e) (2 ^ h)))) (pos (min (m * up e / down e) (2 ^ h - 1))) ≡ signed s (m * up e / down e)
     go true k = ap (λ (i : ℕ). negℤ (pos i)) (uncapped-le (m * up e / down e) (2 ^ h) (le-of-lt k))
     go false k = ap pos (uncapped (m * up e / down e) (2 ^ h) k)
+
+-- ---- and back: an integer of at most 53 digits is a float
+pub int-in-float : (z : ℤ) → natAbs z ≤ 2 ^ 53 → T (inFloat binary64 z)
+unfolding inFloat
+int-in-float (pos n) h = le→leb n (2 ^ 53) h
+int-in-float (negsuc n) h = lt→ltb n (2 ^ 53) h

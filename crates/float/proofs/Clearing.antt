@@ -137,7 +137,7 @@ module _ (y k : ℕ) (at : k + y ≡ 1074) (some : k ≤ 52) where
   unit-is : 2 ^ 1074 ≡ 2 ^ k * 2 ^ y
   unit-is = ap (λ (n : ℕ). 2 ^ n) (sym at) ∙ pow-add 2 k y
 
-  mag-mid : (t : ℕ) → mag (suc y) t / 2 ^ 1074 ≡ (4503599627370496 + t) / 2 ^ k
+  pub mag-mid : (t : ℕ) → mag (suc y) t / 2 ^ 1074 ≡ (4503599627370496 + t) / 2 ^ k
   mag-mid t = ap (λ (n : ℕ). mag (suc y) t / n) unit-is ∙ mul-div-mul-right (4503599627370496 + t) (2 ^ k) (pow-pos y)
 
   mag-whole : (c n : ℕ) → c ≡ n * 2 ^ k → c * 2 ^ y ≡ n * 2 ^ 1074

@@ -12,6 +12,7 @@ pub mod Rounding
 pub mod Fractions
 pub mod Special
 pub mod Integer
+pub mod Naturals
 mod Saturation
 mod Patterns
 mod Clearing

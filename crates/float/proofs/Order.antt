@@ -153,10 +153,6 @@ pub le-whole : {x y : Float} {z w : ℤ} → IsWhole x z → IsWhole y w → le 
 unfolding le
 le-whole {x} {y} {z} {w} u v = ap₂ (λ (i j : Bool). i || j) (lt-whole u v) (eq-whole u v) ∙ or-leZ z w
 
-pub ne-whole : {x y : Float} {z w : ℤ} → IsWhole x z → IsWhole y w → ne x y ≡ not (eqZ z w)
-unfolding ne
-ne-whole u v = ap not (eq-whole u v)
-
 eqZ-same : (z w : ℤ) → z ≡ w → eqZ z w ≡ true
 eqZ-same z w q = ap (λ (i : ℤ). eqZ i w) q ∙ own w
   where

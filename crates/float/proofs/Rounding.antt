@@ -9,8 +9,8 @@ use mathlib.Core.Bool.{Bool, true, false, cond, _&&_}
 use lib.IntN.{ℤ, pos, negsuc, natAbs}
 use lib.Dec.{T, ltb, leb, eqb, ltb→lt}
 use lib.Pow.{pow-pos, pow-add}
-use lib.Ieee.{Float, nan, inf, fin, binary64, up, down, fits, size, nearest, odd, units, round, ofInt, ofBits, add, rem, lt}
-use lib.Ieee.Fits.{down-pos, and-l, and-r, round-fits, nan-fits, inf-fits, cond-fits, add-fits, rem-fits, ofInt-fits}
+use lib.Ieee.{Float, nan, inf, fin, binary64, up, down, fits, size, nearest, odd, units, round, ofInt}
+use lib.Ieee.Fits.{down-pos, and-l, and-r, round-fits, nan-fits, inf-fits, ofInt-fits}
 use lib.Ieee.Bits.{ofBits-fits}
 use lib.Ieee.Exact.{HasValue, round-exact}
 use lib.Ieee.Back.{round-whole, whole-unique}
@@ -18,7 +18,7 @@ use lib.Ieee.Nearest.{div-same}
 use lib.Ieee.Scale.{finite}
 use Rattle.ecma262.specs.Whole.{floorDiv}
 use Rattle.float.specs.Whole.{signed, IsWhole, floorZ, truncZ}
-use Rattle.float.specs.Rounding.{truncF, floorF, withSign, isNegative, absF, copysignF, remEuclidF, toIntegerOrInfinity}
+use Rattle.float.specs.Rounding.{truncF, floorF, withSign, absF, copysignF, toIntegerOrInfinity}
 use Rattle.float.proofs.Fractions as frac
 use Rattle.float.proofs.Fractions.{ceil-same, floor-signed, floor-same, cut}
 
@@ -157,32 +157,6 @@ trunc-fits nan = nan-fits binary64
 trunc-fits (inf s) = inf-fits binary64 s
 trunc-fits (fin s m e) = subst (λ (v : Float). T (fits binary64 v)) (sym (trunc-fin s m e)) (round-fits binary64 s (m * up e / down e) 1)
 
-pub floor-fits : (x : Float) → T (fits binary64 (floorF x))
-unfolding floorF
-floor-fits nan = nan-fits binary64
-floor-fits (inf s) = inf-fits binary64 s
-floor-fits (fin s m e) = subst (λ (v : Float). T (fits binary64 v)) (sym (floor-fin s m e)) (round-fits binary64 s (frac.down s (m * up e) (down e)) 1)
-
-sign-fits : (r : Bool) (x : Float) → T (fits binary64 x) → T (fits binary64 (withSign r x))
-unfolding withSign fits
-sign-fits r nan h = h
-sign-fits r (inf s) h = h
-sign-fits r (fin s zero e) h = h
-sign-fits r (fin s (suc m) e) h = h
-
-pub abs-fits : (x : Float) → T (fits binary64 x) → T (fits binary64 (absF x))
-unfolding absF
-abs-fits x h = sign-fits false x h
-
-pub copysign-fits : (x y : Float) → T (fits binary64 x) → T (fits binary64 (copysignF x y))
-unfolding copysignF
-copysign-fits x y h = sign-fits (isNegative y) x h
-
-pub rem-euclid-fits : (x y : Float) → T (fits binary64 x) → T (fits binary64 (remEuclidF x y))
-unfolding remEuclidF
-rem-euclid-fits x y h =
-    cond-fits binary64 (lt (rem binary64 x y) (ofBits binary64 0)) (add binary64 (rem binary64 x y) (absF y)) (rem binary64 x y) (add-fits binary64 (rem binary64 x y) (absF y)) (rem-fits binary64 x y h)
-
 pub integer-fits : (x : Float) → T (fits binary64 (toIntegerOrInfinity x))
 unfolding toIntegerOrInfinity
 integer-fits nan = ofBits-fits binary64 0
@@ -200,10 +174,6 @@ whole-finite {x} w = value-finite x (w .sign) (w .size) 1 (w .value)
 
 pub truncZ-whole : {x : Float} {z : ℤ} → IsWhole x z → truncZ x ≡ z
 truncZ-whole {x} w = truncZ-value x (w .sign) (w .size) 1 (zero-lt-suc 0) (w .value) ∙ ap (signed (w .sign)) (div-one (w .size)) ∙ w .is
-
-pub floorZ-whole : {x : Float} {z : ℤ} → IsWhole x z → floorZ x ≡ z
-floorZ-whole {x} w =
-    floorZ-value x (w .sign) (w .size) 1 (zero-lt-suc 0) (w .value) ∙ floor-signed (w .sign) (w .size) 1 (zero-lt-suc 0) ∙ ap (signed (w .sign)) (down-whole (w .sign) (w .size)) ∙ w .is
 
 -- a float is one whole number
 pub number-unique : {x : Float} {z z' : ℤ} → IsWhole x z → IsWhole x z' → z ≡ z'
@@ -246,10 +216,6 @@ sign-whole r {x} {z} w = record {
 pub abs-whole : {x : Float} {z : ℤ} → IsWhole x z → IsWhole (absF x) (pos (natAbs z))
 unfolding absF
 abs-whole w = sign-whole false w
-
-pub copysign-whole : {x : Float} {z : ℤ} (y : Float) → IsWhole x z → IsWhole (copysignF x y) (signed (isNegative y) (natAbs z))
-unfolding copysignF
-copysign-whole y w = sign-whole (isNegative y) w
 
 -- ---- Boa's `x.abs().floor().copysign(x)` is the whole part
 pub trunc-by-floor : (x : Float) → copysignF (floorF (absF x)) x ≡ truncF x

@@ -9,8 +9,8 @@ use mathlib.Core.Bool.{Bool, true, false, not, _&&_, cond}
 use lib.IntN.{ℤ, pos, negsuc, negℤ, natAbs, _+ℤ_, _-ℤ_, _*ℤ_, negℤ-negℤ, negℤ-+ℤ, +ℤ-comm, pos-ne-negsuc}
 use lib.Dec.{T, ltb, eqb, ltb→lt, lt→ltb, nltb→le, eqb→eq, not-T, T-not}
 use lib.Arith.{le→nltb}
-use lib.Ieee.{Float, nan, inf, fin, Format, binary64, prec, unlike, up, down, round, sum, neg, add, sub, mul, ofInt, ofBits, fits}
-use lib.Ieee.Bits.{cond-no, is-true, ofBits-fits}
+use lib.Ieee.{Float, nan, inf, fin, Format, binary64, prec, unlike, up, down, round, sum, neg, add, sub, mul, ofInt, fits}
+use lib.Ieee.Bits.{cond-no, is-true}
 use lib.Ieee.Exact.{HasValue}
 use lib.Ieee.Fits.{down-pos, up-pos, eq→eqb, ofInt-fits}
 use lib.Ieee.Back.{round-whole, whole-unique}
@@ -188,6 +188,11 @@ add-plain f {x} {y} {z} {w} u v h p =
     rounded-plain f (add f x y) (z +ℤ w) ((T (u .sign) × (u .size ≡ 0)) × (T (v .sign) × (v .size ≡ 0))) (add-cases f u v) h
     (λ n. not-plain y (v .sign) (v .size) (v .value) (n .1 .0) (n .1 .1) p)
 
+pub add-plain-left : (f : Format) {x y : Float} {z w : ℤ} → IsWhole x z → IsWhole y w → natAbs (z +ℤ w) ≤ 2 ^ prec f → T (plain x) → T (plain (add f x y))
+add-plain-left f {x} {y} {z} {w} u v h p =
+    rounded-plain f (add f x y) (z +ℤ w) ((T (u .sign) × (u .size ≡ 0)) × (T (v .sign) × (v .size ≡ 0))) (add-cases f u v) h
+    (λ n. not-plain x (u .sign) (u .size) (u .value) (n .0 .0) (n .0 .1) p)
+
 zero-fits : (f : Format) (s : Bool) → T (fits f (fin s 0 (pos 0)))
 unfolding fits
 zero-fits f s = tt
@@ -236,7 +241,3 @@ int-unique {x} {z} h w p b = go z w b
         some : (n : ℕ) → suc n ≡ 0 → ⊥
         some n e = omega arith
     go (negsuc n) w b = unique binary64 h (ofInt-fits binary64 (negsuc n)) w (ofInt-whole binary64 (negsuc n) b) (λ e. pos-ne-negsuc 0 n (sym e))
-
--- so a literal, known by its pattern b, is the float of its number
-pub literal-int : (b : ℕ) {z : ℤ} → IsWhole (ofBits binary64 b) z → z ≢ pos 0 → natAbs z ≤ 2 ^ 53 → ofBits binary64 b ≡ ofInt binary64 z
-literal-int b {z} w n h = unique binary64 (ofBits-fits binary64 b) (ofInt-fits binary64 z) w (ofInt-whole binary64 z h) n

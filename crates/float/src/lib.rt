@@ -1,13 +1,14 @@
 // The f64 methods that the date functions use, worked out from sign, exponent and fraction bits. Each contract holds for every f64: NaN, infinities,
 // -0 and subnormals too. The definitions are in specs/, and the laws of whole numbers in f64 in proofs/.
 ghost use mathlib.Core.Path.{_≡_};
-ghost use mathlib.Core.Bool.{not, false};
+ghost use mathlib.Core.Bool.{false};
 ghost use Prim.Native.Nat.{_+_, _-_, _*_, _/_, _%_, _^_, _<_, _≤_};
-ghost use lib.Dec.{T};
+ghost use lib.IntN.{pos};
 ghost use lib.Ieee.Scale.{finite};
 ghost use lib.Ieee.{binary64, ofBits, toBits, round, rem, isNan, toUnsigned, toSigned};
 ghost use Rattle.float.specs.Rounding.{truncF, floorF, absF, copysignF, remEuclidF, toIntegerOrInfinity};
 ghost use Rattle.float.specs.Patterns.{fractionBits, lead, place};
+ghost use Rattle.float.specs.Whole.{truncZ};
 
 // ---- a pattern's parts
 
@@ -304,6 +305,18 @@ pub fn as_i64(x: f64) -> i64
     } else {
         0x7fff_ffff_ffff_ffff
     }
+}
+
+// The whole part of a number from 0 to below 2 ^ 18, by its pattern.
+pub fn natural(b: u64) -> u32
+    requires { ⌜ b < 0x4110_0000_0000_0000 ⌝ }
+    ensures { λ r. ⌜ pos r ≡ truncZ (ofBits binary64 b) ⌝ }
+{
+    let e = b >> 52;
+    if e < 1023 {
+        return 0;
+    }
+    ((0x10_0000_0000_0000 + (b & 0xf_ffff_ffff_ffff)) >> (1075 - e)) as u32
 }
 
 // Rust's `x as i32`.

@@ -1,7 +1,7 @@
 -- Whole times as the machine holds them: the second of one is a quotient of naturals, counted from 10,000,000,000,000 seconds back, and its
 -- shift fits in 64 bits. Assumes nothing.
 use mathlib.Core.Path.{_≡_, sym, ap, _∙_, subst}
-use Prim.Native.Nat.{ℕ, _/_, _^_, _≤_, _<_}
+use Prim.Native.Nat.{_/_, _≤_, _<_}
 use native.Mathlib.Omega.{arith}
 use lib.IntN.{ℤ, pos, natAbs, _+ℤ_, _-ℤ_, _*ℤ_}
 use mir.Syntax.{w32, w64}

@@ -9,15 +9,15 @@ use lib.Dec.{T, leb, leb→le, nleb→lt, lit<, lit≤}
 use lib.IntN.{ℤ, pos, negsuc, natAbs}
 use lib.Ieee.{Float, nan, binary64, fits, lt, eq, ofInt}
 use lib.Ieee.Bits.{is-true}
-use lib.Ieee.Fits.{nan-fits, ofInt-fits}
+use lib.Ieee.Fits.{ofInt-fits}
 use lib.Ieee.Scale.{finite}
 use Rattle.ecma262.specs.Date.{timeRange, InRange, TimeClip}
 use Rattle.ecma262.proofs.Int.{ints, by-test}
 use Rattle.ecma262.proofs.Machine.{true-T}
 use Rattle.ecma262.proofs.Range.{clip-inside, clip-outside}
-use Rattle.float.specs.Whole.{IsWhole, truncZ, plain}
+use Rattle.float.specs.Whole.{IsWhole, truncZ}
 use Rattle.float.specs.Rounding.{truncF, absF}
-use Rattle.float.proofs.Whole.{ofInt-whole, round-is-whole, unique, plain-nonzero}
+use Rattle.float.proofs.Whole.{ofInt-whole, round-is-whole, unique}
 use Rattle.float.proofs.Rounding.{wholeNumber, trunc-value, trunc-whole, trunc-fits, abs-whole, whole-finite}
 use Rattle.float.proofs.Order.{lt-holds, lt-fails, eq-yes, eq-no, trunc-bounded}
 use Rattle.calendar.specs.Calendar.{num}
@@ -83,13 +83,3 @@ module _ {t : Float} {z : ℤ} (w : IsWhole t z) where
       (λ n. let r : timeRange < natAbs z = nleb→lt (natAbs z) timeRange n in clip-outside-whole r ∙ ap timeValue (sym (clip-outside z r)))
 
 -- ---- a time value is a value of the format, and not -0
-pub time-value-fits : {x : Float} → IsTimeValue x → T (fits binary64 x)
-time-value-fits no-time = nan-fits binary64
-time-value-fits (time z r) = ofInt-fits binary64 z
-
-pub time-value-plain : {x : Float} → IsTimeValue x → T (plain x)
-unfolding ofInt
-time-value-plain no-time = tt
-time-value-plain (time (pos zero) r) = tt
-time-value-plain (time (pos (suc n)) r) = plain-nonzero (ofInt-whole binary64 (pos (suc n)) (omega arith)) (λ e. absurd (omega (ints, e)))
-time-value-plain (time (negsuc n) r) = plain-nonzero (ofInt-whole binary64 (negsuc n) (omega arith)) (λ e. absurd (omega (ints, e)))

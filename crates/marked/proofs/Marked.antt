@@ -20,8 +20,8 @@ use Rattle.reader.specs.Outcome.{answerAt, readOutcome}
 use Rattle.writer.specs.Outcome.{written}
 use Rattle.writer.specs.Writer.{isoOutcome, utcOutcome, localOutcome}
 use Rattle.rewrite.specs.Rewrite.{rewriteOutcome}
-use Rattle.fields.specs.Calls.{absent, newDate, valueFrom, valueOfNan}
-use Rattle.fields.specs.Outcome.{setOutcome}
+use Rattle.new_date.specs.Calls.{absent, newDate, valueFrom}
+use Rattle.fields.specs.Outcome.{valueOfNan, setOutcome}
 use Rattle.marked.specs.Table.{rows, right, every}
 
 pub marked-rows : T (every rows)

@@ -15,7 +15,7 @@ use Rattle.reader.specs.Outcome.{readOutcome}
 use Rattle.writer.specs.Outcome.{Outcome}
 use Rattle.writer.specs.Writer.{isoOutcome, utcOutcome, localOutcome}
 use Rattle.rewrite.specs.Rewrite.{rewriteOutcome}
-use Rattle.fields.specs.Calls.{Call, setMonth, setFullYear}
+use Rattle.new_date.specs.Calls.{Call, setMonth, setFullYear}
 use Rattle.fields.specs.Outcome.{setOutcome}
 
 -- ---- what is lent

@@ -1,13 +1,12 @@
 -- Each field of a whole time, from its counted day and year, is what the single function of the calendar gives. Assumes nothing.
-use mathlib.Core.Path.{_≡_, refl, sym, ap, ap₂, _∙_, subst}
+use mathlib.Core.Path.{_≡_, sym, ap, ap₂, _∙_, subst}
 use Prim.Native.Nat.{ℕ, _+_, _-_, _/_, _%_, _≤_, _<_}
-use native.Mathlib.Omega.{arith}
 use lib.IntN.{ℤ, pos, negsuc, natAbs, _+ℤ_, _-ℤ_}
 use lib.Signed.{_≤ℤ_}
 use lib.Ieee.{Float}
 use Rattle.ecma262.specs.Date.{Day, TimeWithinDay, YearFromTime, DayWithinYear, InLeapYear, leapOf, monthOf, dateOf, DateFromTime, daysBefore}
 use Rattle.ecma262.specs.Domain.{Shown}
-use Rattle.ecma262.proofs.Int.{plus, minus, ints, abs-in, Term, at, _+ᵗ_, _-ᵗ_, _/ᵗ_, read}
+use Rattle.ecma262.proofs.Int.{ints, abs-in, at, _+ᵗ_, _-ᵗ_, _/ᵗ_, read}
 use Rattle.ecma262.proofs.Leap.{leap-small}
 use Rattle.ecma262.proofs.Clock.{hour-digit, min-digit, sec-digit, ms-digit}
 use Rattle.ecma262.proofs.Fields.{date-small}

@@ -1,14 +1,14 @@
 -- Years and days counted from far back, in unsigned numbers. With the year y as n = y + 400 k - 1 its first day and its leap day are those
 -- of n, whatever k; here the year is y + 399,999 and the day d is d + 146,816,162. The year of a day by the estimate and one step back.
 -- Assumes nothing.
-use mathlib.Core.Path.{_≡_, refl, sym, ap, _∙_, subst}
+use mathlib.Core.Path.{_≡_, refl, sym, ap, _∙_}
 use mathlib.Core.Bool.{Bool, cond}
 use Prim.Native.Nat.{ℕ, _+_, _*_, _-_, _/_, _%_, _≤_, _<_}
 use native.Mathlib.Omega.{arith}
 use lib.Dec.{eqb}
-use lib.IntN.{ℤ, pos, negsuc, natAbs, _+ℤ_, _-ℤ_, _*ℤ_}
+use lib.IntN.{ℤ, pos, _+ℤ_, _-ℤ_}
 use lib.Signed.{_≤ℤ_, _<ℤ_}
-use Rattle.ecma262.specs.Whole.{floorDiv, floorMod}
+use Rattle.ecma262.specs.Whole.{floorDiv}
 use Rattle.ecma262.specs.Date.{Day, DaysInYear, DayFromYear, TimeFromYear, yearEstimate, YearFromTime, DayWithinYear, leapOf}
 use Rattle.ecma262.specs.Domain.{Shown}
 use Rattle.ecma262.proofs.Int.{plus, minus, ints, abs-in, Term, at, _+ᵗ_, _-ᵗ_, _*ᵗ_, _/ᵗ_, Facts, read}

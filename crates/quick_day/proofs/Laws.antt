@@ -1,19 +1,19 @@
 -- The day of a year and a month in integers is MakeDay's, and so the float that `make_day` gives, where it is not 0: one float is one whole
 -- number, but for 0. Assumes nothing.
-use mathlib.Core.Path.{_≡_, refl, sym, ap, ap₂, _∙_, subst}
-use mathlib.Core.Bool.{Bool, true, false, not, cond, _&&_, false≢true}
-use Prim.Native.Nat.{ℕ, _+_, _^_, _≤_, _<_}
+use mathlib.Core.Path.{_≡_, refl, sym, ap, _∙_, subst}
+use mathlib.Core.Bool.{Bool, true, false, not, _&&_, false≢true}
+use Prim.Native.Nat.{ℕ, _+_, _≤_, _<_}
 use native.Mathlib.Omega.{arith}
-use lib.Dec.{T, lit<, lit≤}
+use lib.Dec.{T, lit≤}
 use lib.IntN.{ℤ, pos, natAbs, _+ℤ_, _-ℤ_}
 use lib.Signed.{_≤ℤ_}
-use lib.Ieee.{Float, nan, binary64, fits, ofBits, ofInt, add, sub, lt, isNan}
+use lib.Ieee.{Float, nan, binary64, fits, add, sub, lt}
 use lib.Ieee.Fits.{cond-fits, nan-fits, add-fits, sub-fits}
 use lib.Ieee.Scale.{finite}
 use Rattle.ecma262.specs.Whole.{floorDiv}
 use Rattle.ecma262.specs.Date.{DayFromYear, leapOf, daysBefore, firstOfMonth, MakeDay}
 use Rattle.ecma262.specs.Domain.{ExactDay}
-use Rattle.ecma262.proofs.Int.{plus, minus, ints, natural, abs-in, abs-out, at, _+ᵗ_, _-ᵗ_, _/ᵗ_, read}
+use Rattle.ecma262.proofs.Int.{plus, ints, natural, abs-in, abs-out, at, _+ᵗ_, _-ᵗ_, _/ᵗ_, read}
 use Rattle.ecma262.proofs.Machine.{true-T}
 use Rattle.ecma262.proofs.Leap.{leap-small}
 use Rattle.ecma262.proofs.Months.{month-nonempty, month-within}
@@ -30,7 +30,6 @@ use Rattle.calendar.proofs.Whole.{num-whole}
 use Rattle.make.specs.Make.{wholePart, yearOfMonth, monthOfYear, monthStartF, dayOfMonthF, makeDayF}
 use Rattle.make.proofs.Parts.{field}
 use Rattle.make.proofs.Exact.{make-day-exact}
-use Rattle.quick_day.specs.Common.{Common}
 
 -- ---- what `is_within` says
 pub within : (x : Float) {most : Float} {n : ℕ} → 0 < n → IsWhole most (pos n) → (finite x && not (lt most (absF x))) ≡ true → T (finite x) × (natAbs (truncZ x) ≤ n)

@@ -2,10 +2,10 @@
 -- digits. Assumes nothing.
 use mathlib.Core.Path.{_≡_, sym, ap, subst, _∙_}
 use mathlib.Core.List.{List}
-use Prim.Native.Nat.{ℕ, _^_, _≤_}
+use Prim.Native.Nat.{ℕ, _≤_}
 use native.Mathlib.Omega.{arith}
-use lib.Dec.{T, le→leb, lt→ltb}
-use lib.IntN.{ℤ, pos, negsuc, natAbs}
+use lib.Dec.{T}
+use lib.IntN.{ℤ, natAbs}
 use lib.Ieee.{Float, binary64, ofInt, inFloat}
 use mir.Syntax.{w32}
 use mir.Val.{toZ, ofZ}
@@ -16,6 +16,7 @@ use Rattle.ecma262.proofs.Machine.{fits32, kept}
 use Rattle.float.specs.Whole.{IsWhole, truncZ}
 use Rattle.float.proofs.Whole.{ofInt-whole}
 use Rattle.float.proofs.Rounding.{truncZ-whole}
+use Rattle.float.proofs.Casts.{int-in-float}
 use Rattle.parts.specs.Parts.{Takes}
 use Rattle.timevalue.specs.TimeValue.{IsTime}
 use Rattle.zone.specs.Zone.{Record, IsZoneList, records, Accepted}
@@ -43,11 +44,6 @@ pub time-near : {t : Float} → IsTime t → natAbs (truncZ t) ≤ 8_999_999_999
 time-near h = omega (arith, h .range)
 
 -- ---- the local time l of a time t of the range
-exact : (z : ℤ) → Shown z → T (inFloat binary64 z)
-unfolding inFloat
-exact (pos n) h = le→leb n (2 ^ 53) (omega arith)
-exact (negsuc n) h = lt→ltb n (2 ^ 53) (omega arith)
-
 module _ (zone : List ℕ) (ok : Accepted zone) {t : Float} (h : IsTime t) {l : ℤ} (is : l ≡ localTime (records zone) (truncZ t)) where
   local-shown : Shown l
   local-shown = subst Shown (sym is) (local-time-shown (records zone) (ok .rule) (truncZ t) (h .range))
@@ -56,7 +52,7 @@ module _ (zone : List ℕ) (ok : Accepted zone) {t : Float} (h : IsTime t) {l : 
   local-near = omega (arith, local-shown)
 
   pub local-exact : T (inFloat binary64 l)
-  local-exact = exact l local-shown
+  local-exact = int-in-float l (omega (arith, local-shown))
 
   local-whole : IsWhole (ofInt binary64 l) l
   local-whole = ofInt-whole binary64 l (omega (arith, local-shown))

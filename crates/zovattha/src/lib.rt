@@ -5,7 +5,7 @@ ghost use mathlib.Core.Path.{_≡_};
 ghost use Rattle.answer.specs.Answer.{replyOf};
 ghost use mathlib.Core.Bool.{true, false};
 ghost use mathlib.Core.List.{[]};
-ghost use Rattle.fields.specs.Calls.Call.{setMilliseconds, setSeconds, setMinutes, setHours, setDate, setMonth, setFullYear};
+ghost use Rattle.new_date.specs.Calls.Call.{setMilliseconds, setSeconds, setMinutes, setHours, setDate, setMonth, setFullYear};
 ghost use Rattle.fields.specs.Outcome.{buildOutcome, setOutcome};
 ghost use Rattle.reader.specs.Outcome.{readOutcome};
 ghost use Rattle.rewrite.specs.Rewrite.{rewriteOutcome};

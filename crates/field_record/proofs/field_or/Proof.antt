@@ -1,7 +1,7 @@
 -- `field_record::field_or` meets its contract: a field that stands is read at its place, and the next one's place follows it. Assumes nothing.
 use borrow.Author.Needs.{needs}
 use mathlib.Core.Path.{_≡_, sym, ap, _∙_}
-use Prim.Native.Nat.{ℕ, _+_, _/_, _%_, _^_}
+use Prim.Native.Nat.{_+_, _/_, _%_, _^_}
 use native.Mathlib.Omega.{arith}
 use lib.Ieee.{binary64, ofBits}
 use Rattle.zone.specs.Bytes.{littleEndian}

@@ -1,11 +1,11 @@
 -- `field_record::has_length` meets its contract. Assumes nothing.
 use borrow.Author.Needs.{needs}
 use borrow.Author.Tests.{ne-eqb}
-use mathlib.Core.Path.{_≡_, sym}
-use Prim.Native.Nat.{ℕ, _+_, _*_}
+use mathlib.Core.Path.{sym}
+use Prim.Native.Nat.{_+_, _*_}
 use native.Mathlib.Omega.{arith}
 use lib.Count.{ones}
-use lib.ListN.{length, getD}
+use lib.ListN.{length}
 use Rattle.field_record.specs.FieldRecord.{mapOf, hasLength}
 use Rattle.field_record.proofs.Laws.{ones-byte}
 use Rattle.field_record.proofs.has_length.Statement.{statement}

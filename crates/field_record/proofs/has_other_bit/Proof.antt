@@ -1,6 +1,5 @@
 -- `field_record::has_other_bit` meets its contract. Assumes nothing.
-use borrow.Author.Needs.{needs}
-use mathlib.Core.Path.{_≡_, sym}
+use mathlib.Core.Path.{sym}
 use native.Mathlib.Omega.{arith}
 use Rattle.field_record.specs.FieldRecord.{mapOf, hasOtherBit}
 use Rattle.field_record.proofs.Laws.{right-length, no-other, some-other}

@@ -3,20 +3,30 @@ use borrow.Author.Needs.{needs}
 use borrow.Author.Tests.{not-true, not-false}
 use mathlib.Core.Path.{_≡_, sym, ap, _∙_, subst}
 use mathlib.Core.Bool.{Bool, true, false, not, _&&_}
-use Prim.Native.Nat.{ℕ, _<_}
+use Prim.Native.Nat.{ℕ, _≤_, _<_}
 use native.Mathlib.Omega.{arith}
-use lib.Ieee.{ofBits, ofInt}
-use Rattle.zone.specs.Zone.{accepts, records}
+use lib.Dec.{T}
+use lib.IntN.{ℤ, natAbs}
+use lib.Ieee.{Float, binary64, ofBits, ofInt, inFloat}
+use mir.Syntax.{w64}
+use mir.Val.{toZ, ofZ}
+use Rattle.ecma262.proofs.Machine.{kept}
+use Rattle.float.specs.Whole.{truncZ, plain}
+use Rattle.float.proofs.Casts.{int-in-float}
+use Rattle.local.specs.Local.{localTime}
+use Rattle.local.proofs.Whole.{local-time-bound, local-time-int}
+use Rattle.zone.specs.Zone.{IsZoneList, accepts, records}
 use Rattle.timevalue.specs.declared.TimeValue.{TimeValue}
 use Rattle.timevalue.specs.declared.TimeValue.the-variants as given
-use Rattle.timevalue.specs.TimeValue.{timeValueOf}
+use Rattle.timevalue.specs.TimeValue.{IsTime, timeValueOf}
 use Rattle.field_record.specs.FieldRecord.{hasLength, hasOtherBit}
-use Rattle.fields.specs.Calls.{bitsOf, shiftIn}
+use Rattle.new_date.specs.Calls.{bitsOf, shiftIn}
 use Rattle.fields.specs.Outcome.{isRefused}
-use Rattle.fields.specs.Steps.{callOf, startOf, started}
+use Rattle.new_date.specs.Steps.{callOf}
+use Rattle.fields.specs.Steps.{startOf, started}
 use Rattle.fields.specs.declared.Start.the-variants.{From}
-use Rattle.fields.proofs.Rows.{zone-row, time-row, length-row, map-row, start-row, listed}
-use Rattle.fields.proofs.Setters.{few-bits, nan-starts, nan-stays}
+use Rattle.fields.proofs.Rows.{zone-row, time-row, length-row, map-row, start-row, listed, time-of}
+use Rattle.fields.proofs.Starts.{few-bits, nan-starts, nan-stays}
 use Rattle.fields.proofs.begin.Statement.{statement}
 use Rattle.fields.proofs.begin.Tie as tie
 
@@ -59,6 +69,12 @@ start-is c v e =
     let a = z .before .before .before .before .args in
     ap (startOf (callOf (a .first)) (a .local) (a .zone .now)) (sym e ∙ t .before .before .time-value .ensures)
     ∙ start-row (callOf (a .first)) (a .local) (a .zone .now) (a .time) (a .fields .now) (list-ok z) (time-ok t) (length-ok l) (map-test (c .before) (c .if4 .left))
+
+-- the time that was matched: whole, in the range and not -0
+time : (c : tie.After-value) → let t = c .value .given .0 .0 in IsTime t × T (plain t)
+time c =
+    let v = c .before .before .before .before .before .before .before .before .before in
+    time-of (v .before .before .before .before .before .args .time) _ (sym (v .time-value .ensures) ∙ c .value .given .1)
 
 zone-refused-requires : tie.Need-zone-refused-requires
 zone-refused-requires c κs = search needs
@@ -105,18 +121,57 @@ returns-4 c =
 enum-known-value : tie.Need-enum-known-value
 enum-known-value c = search needs
 
-local-time-requires : tie.Need-local-time-requires
-local-time-requires c κs =
+whole-requires : tie.Need-whole-requires
+whole-requires c κs = time (c .before .before) .0
+
+-- it as an integer
+whole-is : (c : tie.After-whole) → toZ w64 (ofZ w64 (c .whole .result)) ≡ truncZ (c .before .before .before .value .given .0 .0)
+whole-is c = kept {w = w64} (record { sfits = c .whole .ok }) ∙ c .whole .ensures
+
+near : {t : Float} → IsTime t → natAbs (truncZ t) ≤ 8_999_999_999_999_999
+near h = omega (arith, h .range)
+
+local-time-whole-requires : tie.Need-local-time-whole-requires
+local-time-whole-requires c κs =
+    let k = c .before .before .before in
+    let z = k .before .before .before .before .before .before .before .before .before .before in
+    let a = z .before .before .before .before .args in
+    (listed (a .local) (a .zone .now) (list-ok z) (c .before .if5 .taken), subst (λ (i : ℤ). natAbs i ≤ 8_999_999_999_999_999) (sym (whole-is c)) (near (time k .0)))
+
+-- its local time, as the list gives it
+shifted-is : (c : tie.After-local-time-whole) → let k = c .before .before .before .before in let z = k .before .before .before .before .before .before .before .before .before .before in
+    toZ w64 (ofZ w64 (c .local-time-whole .result)) ≡ localTime (records (z .before .before .before .before .args .zone .now)) (truncZ (k .value .given .0 .0))
+shifted-is c =
+    let z = c .before .before .before .before .before .before .before .before .before .before .before .before .before .before in
+    kept {w = w64} (record { sfits = c .local-time-whole .ok }) ∙ c .local-time-whole .ensures ∙ ap (localTime (records (z .before .before .before .before .args .zone .now))) (whole-is (c .before))
+
+-- the list's own rule
+rule-of : (c : tie.Then5) → let z = c .before .before .before .before .before .before .before .before .before .before .before .before in IsZoneList (records (z .before .before .before .before .args .zone .now))
+rule-of c =
     let z = c .before .before .before .before .before .before .before .before .before .before .before .before in
     let a = z .before .before .before .before .args in
-    listed (a .local) (a .zone .now) (list-ok z) (c .if5 .taken)
+    listed (a .local) (a .zone .now) (list-ok z) (c .if5 .taken) .rule
+
+int-to-float-shifted : tie.Need-int-to-float-shifted
+int-to-float-shifted c =
+    let l = c .before in
+    let k = l .before .before .before .before in
+    subst (λ (i : ℤ). T (inFloat binary64 i)) (sym (shifted-is l))
+    (int-in-float _ (omega (arith, local-time-bound _ (rule-of (l .before .before)) (truncZ (k .value .given .0 .0)) (near (time k .0)))))
 
 returns-5 : tie.Need-returns-5
 returns-5 c =
-    let k = c .before .before .before in
+    let l = c .before in
+    let t = l .before .before in
+    let k = t .before .before in
     let m = k .before .before in
     let a = m .before .before .before .before .before .before .before .before .before .before .before .before .args in
-    ap From (c .local-time .ensures ∙ ap (λ (b : Bool). shiftIn b (records (a .zone .now)) (k .value .given .0 .0)) (sym (c .before .if5 .taken)))
+    let list = records (a .zone .now) in
+    let v = time k in
+    ap From
+    (ap (ofInt binary64) (shifted-is l)
+    ∙ local-time-int list (rule-of t) (truncZ (k .value .given .0 .0)) (near (v .0)) (v .0 .whole) (v .1)
+    ∙ ap (λ (b : Bool). shiftIn b list (k .value .given .0 .0)) (sym (t .if5 .taken)))
     ∙ start-is m (given.Time (k .value .given .0 .0)) (k .value .given .1)
 
 enum-told : tie.Need-enum-told
@@ -164,7 +219,9 @@ begin-spec =
     has-other-bit-requires
     returns-4
     enum-known-value
-    local-time-requires
+    whole-requires
+    local-time-whole-requires
+    int-to-float-shifted
     returns-5
     enum-told
     returns-6

@@ -1,7 +1,6 @@
 -- `fields::bits_from` meets its contract. Assumes nothing.
 use borrow.Author.Needs.{needs}
-use native.Mathlib.Omega.{arith}
-use Rattle.fields.proofs.Setters.{day-bits, clock-bits}
+use Rattle.fields.proofs.Starts.{day-bits, clock-bits}
 use Rattle.fields.proofs.bits_from.Statement.{statement}
 use Rattle.fields.proofs.bits_from.Tie as tie
 

@@ -1,6 +1,6 @@
 -- `fields::zone_refused` meets its contract. Assumes nothing.
 use borrow.Author.Needs.{needs}
-use mathlib.Core.Path.{_≡_, sym, ap, _∙_}
+use mathlib.Core.Path.{sym, ap, _∙_}
 use mathlib.Core.Bool.{Bool, not, _&&_}
 use Rattle.zone.specs.Zone.{accepts}
 use Rattle.fields.proofs.zone_refused.Statement.{statement}

@@ -1,5 +1,5 @@
 -- `parts::counted` meets its contract. Assumes nothing.
-use mathlib.Core.Path.{_≡_, sym, ap, _∙_, subst}
+use mathlib.Core.Path.{sym, ap, _∙_, subst}
 use lib.Dec.{T}
 use lib.IntN.{ℤ, pos, natAbs, _+ℤ_}
 use lib.Signed.{nonNeg}
@@ -10,7 +10,6 @@ use Rattle.ecma262.specs.Domain.{Shown}
 use Rattle.parts.proofs.Bridge.{whole-cast, count-natural, count-small, count-made, count-value}
 use Rattle.parts.proofs.counted.Statement.{statement}
 use Rattle.parts.proofs.counted.Tie as tie
-use Rattle.parts.proofs.counted.Lts as lts
 
 -- what the cast gives
 abbrev cast-of : tie.After-row-known → ℤ

@@ -1,11 +1,8 @@
 -- `parts::parts_of` meets its contract: each field is the single function's, by the laws of proofs/Together.antt. Assumes nothing.
 use borrow.Author.Needs.{needs}
-use mathlib.Core.Path.{_≡_, refl, sym, ap, _∙_, subst}
-use Prim.Native.Nat.{ℕ, _+_, _-_, _≤_, _<_}
+use mathlib.Core.Path.{_≡_, refl, _∙_}
+use Prim.Native.Nat.{_+_, _-_, _≤_, _<_}
 use native.Mathlib.Omega.{arith}
-use lib.IntN.{ℤ, pos, _+ℤ_}
-use mir.Syntax.{w32}
-use mir.Val.{SFits}
 use Rattle.ecma262.proofs.Machine.{kept}
 use Rattle.calendar.specs.Calendar.{dateFromTimeF}
 use Rattle.parts.proofs.Together as together

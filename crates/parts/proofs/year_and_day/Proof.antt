@@ -1,8 +1,8 @@
 -- `parts::year_and_day` meets its contract. Assumes nothing.
 use borrow.Author.Needs.{needs}
-use mathlib.Core.Path.{_≡_, sym, ap, _∙_, subst}
+use mathlib.Core.Path.{_≡_, ap, _∙_, subst}
 use Prim.Native.Nat.{ℕ, _-_, _≤_, _<_}
-use lib.IntN.{ℤ, pos, _+ℤ_}
+use lib.IntN.{pos, _+ℤ_}
 use native.Mathlib.Omega.{arith}
 use Rattle.ecma262.specs.Date.{DayFromYear, YearFromTime}
 use Rattle.float.specs.Whole.{truncZ}

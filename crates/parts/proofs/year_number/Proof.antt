@@ -7,7 +7,7 @@ use lib.IntN.{ℤ, pos, _-ℤ_}
 use mir.Syntax.{w32}
 use mir.Val.{SFits, toZ, ofZ}
 use mir.Facts.{toZ-pos}
-use Rattle.ecma262.proofs.Int.{plus, minus, Term, at, _-ᵗ_, read}
+use Rattle.ecma262.proofs.Int.{at, _-ᵗ_, read}
 use Rattle.ecma262.proofs.Machine.{fits32, kept}
 use Rattle.parts.proofs.year_number.Statement.{statement}
 use Rattle.parts.proofs.year_number.Tie as tie

@@ -9,10 +9,9 @@ use lib.Signed.{nonNeg, _≤ℤ_}
 use mir.Syntax.{w32, w64}
 use mir.Val.{Fits, SFits, toZ, ofZ}
 use Rattle.ecma262.specs.Date.{leapOf, daysBefore}
-use Rattle.ecma262.proofs.Int.{plus, minus, ints, natural, abs-in, at, _+ᵗ_, read}
+use Rattle.ecma262.proofs.Int.{plus, ints, natural, abs-in, at, _+ᵗ_, read}
 use Rattle.ecma262.proofs.Machine.{fits64, kept}
 use Rattle.parts.proofs.Years.{firstDay}
-use Rattle.quick_day.specs.Common.{Common}
 use Rattle.quick_day.proofs.Laws.{year-counted, Counted, counted}
 use Rattle.quick_day.proofs.first_of_month.Statement.{statement}
 use Rattle.quick_day.proofs.first_of_month.Tie as tie

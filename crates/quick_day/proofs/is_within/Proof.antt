@@ -1,9 +1,8 @@
 -- `quick_day::is_within` meets its contract. Assumes nothing.
 use borrow.Author.Needs.{needs}
-use mathlib.Core.Path.{_≡_, refl, sym, ap, _∙_}
-use mathlib.Core.Bool.{Bool, true, false, not, _&&_}
+use mathlib.Core.Path.{sym, ap, _∙_}
+use mathlib.Core.Bool.{Bool, not, _&&_}
 use lib.Ieee.{Float, lt}
-use lib.Ieee.Scale.{finite}
 use Rattle.float.specs.Rounding.{absF}
 use Rattle.quick_day.proofs.is_within.Statement.{statement}
 use Rattle.quick_day.proofs.is_within.Tie as tie

@@ -1,7 +1,6 @@
 -- `quick_day::make_day` meets its contract: in integers by the laws of proofs/Laws.antt, elsewhere by the call. Assumes nothing.
 use borrow.Author.Needs.{needs}
 use mathlib.Core.Path.{_≡_, sym, ap, ap₂, _∙_, subst}
-use mathlib.Core.Bool.{true}
 use Prim.Native.Nat.{ℕ, _≤_, _<_}
 use native.Mathlib.Omega.{arith}
 use lib.Dec.{T, lit<, lit≤}
@@ -12,7 +11,7 @@ use lib.Ieee.Scale.{finite}
 use mir.Syntax.{w64}
 use mir.Val.{toZ, ofZ}
 use Rattle.ecma262.specs.Date.{firstOfMonth}
-use Rattle.ecma262.proofs.Int.{plus, minus, ints, abs-in}
+use Rattle.ecma262.proofs.Int.{ints, abs-in}
 use Rattle.ecma262.proofs.Machine.{kept, le-true}
 use Rattle.float.specs.Whole.{truncZ}
 use Rattle.float.proofs.Casts.{toSigned-trunc}

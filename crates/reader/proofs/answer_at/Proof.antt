@@ -2,17 +2,17 @@
 use borrow.Author.Needs.{needs}
 use mathlib.Core.Path.{_≡_, sym, ap, _∙_, subst}
 use mathlib.Core.Logic.{inl, inr}
-use Prim.Native.Nat.{ℕ, _^_, _≤_, _<_}
+use Prim.Native.Nat.{ℕ, _<_}
 use native.Mathlib.Omega.{arith}
-use lib.Dec.{T, le→leb, lt→ltb}
-use lib.IntN.{ℤ, pos, negsuc, natAbs, _-ℤ_}
+use lib.Dec.{T}
+use lib.IntN.{ℤ, pos, _-ℤ_}
 use lib.Ieee.{binary64, ofInt, toBits, inFloat}
 use mir.Syntax.{w64}
 use mir.Val.{SFits, toZ, ofZ}
 use mir.Facts.{toZ-pos}
-use Rattle.ecma262.specs.Date.{timeRange}
 use Rattle.ecma262.proofs.Int.{at, _-ᵗ_, read}
 use Rattle.ecma262.proofs.Machine.{fits64, kept}
+use Rattle.float.proofs.Casts.{int-in-float}
 use Rattle.answer.specs.declared.Reply.the-variants.{Time}
 use Rattle.reader.proofs.Counting.{beyond, inside, answer-beyond, answer-inside}
 use Rattle.reader.proofs.answer_at.Statement.{statement}
@@ -26,12 +26,6 @@ fits u h = fits64 (pos u -ℤ pos 37930477996800000) (omega (arith, read (at (po
 
 value : (u : ℕ) → u < 200000000000000000 → toZ w64 (ofZ w64 (toZ w64 u -ℤ pos 37930477996800000)) ≡ pos u -ℤ pos 37930477996800000
 value u h = ap (λ (z : ℤ). toZ w64 (ofZ w64 (z -ℤ pos 37930477996800000))) (natural u h) ∙ kept (fits u h)
-
--- a time of the range is a whole number of f64
-in-float : (z : ℤ) → natAbs z ≤ timeRange → T (inFloat binary64 z)
-unfolding inFloat
-in-float (pos n) h = le→leb n (2 ^ 53) (omega arith)
-in-float (negsuc n) h = lt→ltb n (2 ^ 53) (omega arith)
 
 returns : tie.Need-returns
 returns c = answer-beyond _ (beyond (c .before .args .u) (inl (c .if1 .taken)))
@@ -48,7 +42,7 @@ sub-t c = let u = c .before .before .args .u in subst (λ (z : ℤ). SFits w64 (
 int-to-float-bits-of : tie.Need-int-to-float-bits-of
 int-to-float-bits-of c =
     let a = c .before .before .before in
-    subst (λ (z : ℤ). T (inFloat binary64 z)) (sym (value (a .args .u) (a .pre))) (in-float _ (inside (a .args .u) (c .before .before .if1 .left) (c .before .if2 .left)))
+    subst (λ (z : ℤ). T (inFloat binary64 z)) (sym (value (a .args .u) (a .pre))) (int-in-float _ (omega (arith, inside (a .args .u) (c .before .before .if1 .left) (c .before .if2 .left))))
 
 bits-of-requires : tie.Need-bits-of-requires
 bits-of-requires c κs = search needs

@@ -1,5 +1,5 @@
 -- `timevalue::whole` meets its contract. Assumes nothing.
-use mathlib.Core.Path.{_≡_, sym, ap, _∙_}
+use mathlib.Core.Path.{_≡_, ap, _∙_}
 use Prim.Native.Nat.{_^_, _≤_, _<_}
 use native.Mathlib.Omega.{arith}
 use lib.Dec.{T}
@@ -7,7 +7,7 @@ use lib.IntN.{ℤ, pos, negsuc, natAbs}
 use lib.Signed.{mag}
 use lib.Ieee.{Float, binary64, add, ofBits, inSigned, toSigned}
 use mir.Syntax.{w64}
-use mir.Val.{SFits, toZ, ofZ}
+use mir.Val.{toZ, ofZ}
 use Rattle.ecma262.proofs.Int.{abs-in}
 use Rattle.ecma262.proofs.Machine.{fits64, kept}
 use Rattle.float.specs.Whole.{truncZ}

@@ -1,0 +1,162 @@
+-- In the exact domain the builder and every setter, from a time t that is the whole number z, give what ECMA-262's own steps give in whole
+-- numbers: the fields are whole numbers, every sum and product of the new date is exact, and so is the shift out. Assumes nothing.
+use mathlib.Core.Path.{_≡_, refl, sym, _∙_, subst}
+use mathlib.Core.Bool.{Bool, true, false, cond, _&&_, true≢false}
+use mathlib.Core.List.{List, [], _∷_}
+use Prim.Native.Nat.{ℕ, zero, suc, _^_, _≤_, _<_}
+use native.Mathlib.Omega.{arith}
+use lib.Dec.{T, lit<, lit≤}
+use lib.IntN.{ℤ, pos, negsuc, natAbs}
+use lib.Signed.{_≤ℤ_}
+use lib.ListN.{length, getD}
+use lib.Ieee.{Float, nan, binary64, fits, ofInt, add, le, isNan}
+use lib.Ieee.Bits.{ofBits-fits}
+use lib.Ieee.Fits.{cond-fits, nan-fits, add-fits}
+use Rattle.ecma262.specs.Whole.{floorDiv}
+use Rattle.ecma262.specs.Date.{Day, TimeWithinDay, YearFromTime, MonthFromTime, DateFromTime, HourFromTime, MinFromTime, SecFromTime, msFromTime, MakeTime, MakeDay, MakeDate}
+use Rattle.ecma262.specs.Domain.{ExactDay, ExactTime, Shown}
+use Rattle.ecma262.proofs.Int.{ints, abs-in, abs-out, mod-small, at, _+ᵗ_, _ᵗ*_, _/ᵗ_, read}
+use Rattle.ecma262.proofs.Range.{year-range, make-day-range, make-time-range}
+use Rattle.ecma262.proofs.Fields.{month-range, date-small, date-natural}
+use Rattle.float.specs.Whole.{IsWhole, truncZ}
+use Rattle.float.specs.Rounding.{toIntegerOrInfinity}
+use Rattle.float.proofs.Rounding.{integer-fits}
+use Rattle.calendar.specs.Calendar.{num, dayF, timeWithinDayF}
+use Rattle.calendar.proofs.Whole.{shown-small, day-whole, time-within-day-whole, year-from-time-whole, month-from-time-whole, date-from-time-whole, hour-from-time-whole, min-from-time-whole, sec-from-time-whole, ms-from-time-whole}
+use Rattle.make.specs.Make.{makeTimeF, makeDayF, makeDateF, makeFullYearF, fullYear, IsField, timeValue}
+use Rattle.make.proofs.Parts.{field, field-whole, field-int}
+use Rattle.make.proofs.Exact.{make-time-exact, make-day-exact, make-date-exact, make-full-year-exact}
+use Rattle.make.proofs.Clip.{clip-exact}
+use Rattle.zone.specs.Zone.{Record, IsZoneList}
+use Rattle.local.proofs.Whole.{utc-whole}
+use Rattle.field_record.specs.FieldRecord.{stands, fieldAt, fieldOr}
+use Rattle.new_date.specs.Calls.{Call, build, setMilliseconds, setSeconds, setMinutes, setHours, setDate, setMonth, setFullYear, bitsOf, yearNow, monthNow, dateNow, hourNow, minuteNow, secondNow, msNow, absent, argument, newDate, valueFrom}
+use Rattle.new_date.specs.Steps.{Dated}
+use Rattle.new_date.specs.Standard.{absentZ, argumentZ, newDateZ, valueFromZ, Finite, Bounded, Exact}
+
+-- ---- the elements of two lists, one by one
+abbrev Pairs : List Float → List ℤ → Type 0
+Pairs [] zs = Unit {0}
+Pairs (x ∷ xs) [] = ⊥
+Pairs (x ∷ xs) (z ∷ zs) = IsField x z × Pairs xs zs
+
+pair-at : (xs : List Float) (zs : List ℤ) → Pairs xs zs → (i : ℕ) → i < length xs → IsField (getD xs i nan) (getD zs i (pos 0))
+pair-at [] zs p i h = absurd (omega arith)
+pair-at (x ∷ xs) [] p i h = absurd p
+pair-at (x ∷ xs) (z ∷ zs) p zero h = p .0
+pair-at (x ∷ xs) (z ∷ zs) p (suc i) h = pair-at xs zs (p .1) i (omega arith)
+
+number : (n k : ℕ) → n ≡ k → k ≤ 9007199254740992 → IsField (num n) (pos k)
+number n k e h = subst (λ (m : ℕ). IsField (num m) (pos k)) (sym e) (field-int (pos k) h)
+
+pub full-year-fits : (y : Float) → T (fits binary64 (makeFullYearF y))
+unfolding makeFullYearF fullYear
+full-year-fits y =
+    let i = toIntegerOrInfinity y in
+    cond-fits binary64 (isNan y) nan (fullYear i) (nan-fits binary64)
+    (cond-fits binary64 (le (num 0) i && le i (num 99)) (add binary64 (num 1900) i) i (add-fits binary64 (num 1900) i) (integer-fits y))
+
+pub field-at-fits : (fields : List ℕ) (i : ℕ) → T (fits binary64 (fieldAt fields i))
+unfolding fieldAt
+field-at-fits fields i = ofBits-fits binary64 _
+
+-- ---- the new date: whole, and small enough for the shift out
+date-small-enough : (d v : ℤ) → natAbs d ≤ 103_987_430 → natAbs v ≤ 6_200_000_000_000 → natAbs (MakeDate d v) ≤ 8_999_999_999_999_999
+date-small-enough d v h k = abs-out (MakeDate d v) (omega (arith, abs-in d h, abs-in v k, read (at d ᵗ* 86400000 +ᵗ at v)))
+
+dated : {day time : Float} {d v : ℤ} → IsWhole day d → IsWhole time v → natAbs d ≤ 103_987_430 → natAbs v ≤ 6_200_000_000_000 → Dated (makeDateF day time) (MakeDate d v)
+dated {d = d} {v = t} u v h k = record { whole = make-date-exact u v h k; small = date-small-enough d t h k }
+
+module _ {t : Float} {z : ℤ} (w : IsWhole t z) (h : Shown z) where
+  -- ---- the present fields
+  pub year-field : IsField (yearNow t) (YearFromTime z)
+  year-field = subst (λ (y : ℤ). IsField (ofInt binary64 y) (YearFromTime z)) (sym (year-from-time-whole w h)) (field-int (YearFromTime z) (year-small (YearFromTime z) (year-range z h)))
+    where
+      year-small : (y : ℤ) → (negsuc 271820 ≤ℤ y) × (y ≤ℤ pos 275760) → natAbs y ≤ 2 ^ 53
+      year-small y r = abs-out y (omega (ints, r))
+
+  pub month-field : IsField (monthNow t) (pos (MonthFromTime z))
+  month-field = number _ _ (month-from-time-whole w h) (omega (arith, month-range z))
+
+  pub date-field : IsField (dateNow t) (DateFromTime z)
+  date-field = subst (IsField (dateNow t)) (date-natural z) (number _ _ (date-from-time-whole w h) (omega (arith, date-small z)))
+
+  pub hour-field : IsField (hourNow t) (pos (HourFromTime z))
+  hour-field = number _ _ (hour-from-time-whole w h) (omega (arith, mod-small (floorDiv z 3600000) 23))
+
+  pub minute-field : IsField (minuteNow t) (pos (MinFromTime z))
+  minute-field = number _ _ (min-from-time-whole w h) (omega (arith, mod-small (floorDiv z 60000) 59))
+
+  pub second-field : IsField (secondNow t) (pos (SecFromTime z))
+  second-field = number _ _ (sec-from-time-whole w h) (omega (arith, mod-small (floorDiv z 1000) 59))
+
+  pub ms-field : IsField (msNow t) (pos (msFromTime z))
+  ms-field = number _ _ (ms-from-time-whole w h) (omega (arith, mod-small z 999))
+
+  -- ---- the arguments
+  zero-field : IsField (num 0) (pos 0)
+  zero-field = field-int (pos 0) (lit≤ tt)
+
+  absent-field : (call : Call) (i : ℕ) → suc i < bitsOf call → IsField (getD (absent call t) (suc i) nan) (getD (absentZ call z) (suc i) (pos 0))
+  unfolding absent absentZ
+  absent-field build i k =
+      pair-at (num 0 ∷ num 1 ∷ num 0 ∷ num 0 ∷ num 0 ∷ num 0 ∷ []) (pos 0 ∷ pos 1 ∷ pos 0 ∷ pos 0 ∷ pos 0 ∷ pos 0 ∷ [])
+      (zero-field, (field-int (pos 1) (lit≤ tt), (zero-field, (zero-field, (zero-field, (zero-field, tt)))))) i (omega arith)
+  absent-field setMilliseconds i k = absurd (omega arith)
+  absent-field setSeconds i k = pair-at (msNow t ∷ []) (pos (msFromTime z) ∷ []) (ms-field, tt) i (omega arith)
+  absent-field setMinutes i k = pair-at (secondNow t ∷ msNow t ∷ []) (pos (SecFromTime z) ∷ pos (msFromTime z) ∷ []) (second-field, (ms-field, tt)) i (omega arith)
+  absent-field setHours i k =
+      pair-at (minuteNow t ∷ secondNow t ∷ msNow t ∷ []) (pos (MinFromTime z) ∷ pos (SecFromTime z) ∷ pos (msFromTime z) ∷ []) (minute-field, (second-field, (ms-field, tt))) i (omega arith)
+  absent-field setDate i k = absurd (omega arith)
+  absent-field setMonth i k = pair-at (dateNow t ∷ []) (DateFromTime z ∷ []) (date-field, tt) i (omega arith)
+  absent-field setFullYear i k = pair-at (monthNow t ∷ dateNow t ∷ []) (pos (MonthFromTime z) ∷ DateFromTime z ∷ []) (month-field, (date-field, tt)) i (omega arith)
+
+  argument-field : (call : Call) (fields : List ℕ) → Finite call fields → (i : ℕ) → i < bitsOf call → IsField (argument call t fields i) (argumentZ call z fields i)
+  unfolding fieldOr
+  argument-field call fields n i k = go (stands fields i) refl
+    where
+      none : (i : ℕ) → i < bitsOf call → stands fields i ≡ false → IsField (getD (absent call t) i nan) (getD (absentZ call z) i (pos 0))
+      none zero k e = absurd (true≢false (sym (n .first) ∙ e))
+      none (suc i) k e = absent-field call i k
+
+      go : (b : Bool) → stands fields i ≡ b → IsField (cond b (fieldAt fields i) (getD (absent call t) i nan)) (cond b (truncZ (fieldAt fields i)) (getD (absentZ call z) i (pos 0)))
+      go true e = field (fieldAt fields i) (field-at-fits fields i) (n .each i k e)
+      go false e = none i k e
+
+  -- ---- the new date
+  pub on-clock : {hour min sec ms : Float} {a b c d : ℤ} → IsField hour a → IsField min b → IsField sec c → IsField ms d → ExactTime a b c d
+      → Dated (makeDateF (dayF t) (makeTimeF hour min sec ms)) (MakeDate (Day z) (MakeTime a b c d))
+  on-clock p q r s e =
+      dated (day-whole w (shown-small z h)) (make-time-exact p q r s e) (abs-out (Day z) (omega (arith, abs-in z h, read (at z /ᵗ 86400000)))) (make-time-range _ _ _ _ e)
+
+  pub on-day : {year month date : Float} {y m d : ℤ} → IsField year y → IsField month m → IsField date d → ExactDay y m d
+      → Dated (makeDateF (makeDayF year month date) (timeWithinDayF t)) (MakeDate (MakeDay y m d) (pos (TimeWithinDay z)))
+  on-day p q r e = dated (make-day-exact p q r e) (time-within-day-whole w) (make-day-range _ _ _ e) (omega (arith, mod-small z 86399999))
+
+  new-date : (call : Call) (a : ℕ → Float) (b : ℕ → ℤ) → ((i : ℕ) → i < bitsOf call → IsField (a i) (b i)) → Bounded call z b → Dated (newDate call t a) (newDateZ call z b)
+  unfolding newDate newDateZ
+  new-date build a b f e =
+      dated
+      (make-day-exact (field-whole (full-year-fits (a 0)) (make-full-year-exact (f 0 (lit< tt)))) (f 1 (lit< tt)) (f 2 (lit< tt)) (e .0))
+      (make-time-exact (f 3 (lit< tt)) (f 4 (lit< tt)) (f 5 (lit< tt)) (f 6 (lit< tt)) (e .1))
+      (make-day-range _ _ _ (e .0)) (make-time-range _ _ _ _ (e .1))
+  new-date setMilliseconds a b f e = on-clock hour-field minute-field second-field (f 0 (lit< tt)) e
+  new-date setSeconds a b f e = on-clock hour-field minute-field (f 0 (lit< tt)) (f 1 (lit< tt)) e
+  new-date setMinutes a b f e = on-clock hour-field (f 0 (lit< tt)) (f 1 (lit< tt)) (f 2 (lit< tt)) e
+  new-date setHours a b f e = on-clock (f 0 (lit< tt)) (f 1 (lit< tt)) (f 2 (lit< tt)) (f 3 (lit< tt)) e
+  new-date setDate a b f e = on-day year-field month-field (f 0 (lit< tt)) e
+  new-date setMonth a b f e = on-day year-field (f 0 (lit< tt)) (f 1 (lit< tt)) e
+  new-date setFullYear a b f e = on-day (f 0 (lit< tt)) (f 1 (lit< tt)) (f 2 (lit< tt)) e
+
+  -- THE LAW: the value is that of the standard's steps
+  pub value-exact : (call : Call) (local : Bool) (list : List Record) → (local ≡ true → IsZoneList list) → (fields : List ℕ) → Exact call z fields
+      → valueFrom call local list t fields ≡ timeValue (valueFromZ call local list z fields)
+  unfolding valueFrom valueFromZ
+  value-exact call local list l fields e = go local l
+    where
+      d : Dated (newDate call t (argument call t fields)) (newDateZ call z (argumentZ call z fields))
+      d = new-date call (argument call t fields) (argumentZ call z fields) (argument-field call fields (e .numbers)) (e .bounds)
+
+      go : (local : Bool) → (local ≡ true → IsZoneList list) → valueFrom call local list t fields ≡ timeValue (valueFromZ call local list z fields)
+      go false l = clip-exact (d .whole)
+      go true l = clip-exact (utc-whole list (l refl) _ (d .small) (d .whole))

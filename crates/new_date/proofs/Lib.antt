@@ -1,0 +1,4 @@
+mod Setters
+pub mod Exact
+mod Small
+pub mod Values
