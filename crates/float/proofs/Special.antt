@@ -3,7 +3,7 @@
 use mathlib.Core.Path.{_≡_, refl, subst}
 use mathlib.Core.Bool.{Bool, true, false, not, false≢true}
 use lib.Dec.{T, not-T}
-use lib.Ieee.{Float, nan, inf, fin, Format, add, sub, div, rem, neg, lt, eq, ne, isNan}
+use lib.Ieee.{Float, nan, inf, fin, Format, add, sub, div, rem, neg, lt, eq, ne, isNan, binary64, ofBits}
 use lib.Ieee.Bits.{is-false}
 use lib.Ieee.Compare.{differs-from-itself, nan-differs}
 use lib.Ieee.Scale.{finite}
@@ -59,3 +59,8 @@ unfolding remEuclidF rem lt
 rem-euclid-inf s y = refl
 
 -- ---- a finite result has finite operands
+
+-- ---- the NaN that the code makes
+pub made-nan : div binary64 (ofBits binary64 0) (ofBits binary64 0) ≡ nan
+unfolding div ofBits
+made-nan = refl

@@ -2,17 +2,12 @@
 use mathlib.Core.Path.{_≡_, refl, sym, ap, _∙_}
 use mathlib.Core.Bool.{Bool, true, false, not, cond, _&&_}
 use Prim.Native.Nat.{ℕ}
-use lib.Ieee.{Float, nan, binary64, add, sub, mul, div, lt, le, isNan, ofBits}
+use lib.Ieee.{Float, nan, binary64, add, sub, mul, div, lt, le, isNan}
 use lib.Ieee.Scale.{finite}
 use borrow.Author.Tests.{not-true, not-false}
 use Rattle.float.specs.Rounding.{truncF, absF, toIntegerOrInfinity}
 use Rattle.calendar.specs.Calendar.{num, dayF}
 use Rattle.make.specs.Make.{wholePart, joinTime, makeTimeF, yearOfMonth, monthOfYear, monthStartF, dayOfMonthF, makeDayF, ifFinite, makeDateF, fullYear, makeFullYearF, plainZero, timeClipF}
-
--- the NaN that the code makes
-pub made-nan : div binary64 (ofBits binary64 0) (ofBits binary64 0) ≡ nan
-unfolding div ofBits
-made-nan = refl
 
 and-false : (a : Bool) {b : Bool} → b ≡ false → (a && b) ≡ false
 and-false true e = e

@@ -3,8 +3,9 @@ use borrow.Author.Needs.{needs}
 use mathlib.Core.Path.{_≡_, refl, sym, ap, ap₂, _∙_, subst}
 use mathlib.Core.Bool.{not}
 use lib.Dec.{T}
-use lib.Ieee.{Float, nan, binary64, fits, isNan, rem, div, ofBits, toBits}
+use lib.Ieee.{Float, binary64, fits, isNan, rem, ofBits, toBits}
 use Rattle.float.specs.Patterns.{lead, place}
+use Rattle.float.proofs.Special.{made-nan}
 use Rattle.float.proofs.Patterns.{is-nan, is-number, no-nan, bits-lt, bits-back}
 use Rattle.float.proofs.Digits.{rem-by-nan, rem-of-inf, rem-by-zero, rem-by-inf, is-inf, is-zero, finite, rem-is, round-number}
 use Prim.Native.Nat.{ℕ, _*_, _/_, _%_, _^_, _<_}
@@ -17,10 +18,6 @@ held-x c = subst T (sym (c .good .0 .1)) tt
 
 held-y : (c : tie.Start) → T (fits binary64 (c .args .y))
 held-y c = subst T (sym (c .good .1 .0 .1)) tt
-
-quotient : div binary64 (ofBits binary64 0) (ofBits binary64 0) ≡ nan
-unfolding div ofBits
-quotient = refl
 
 below-ones : (n : ℕ) → (n % 2048 ≡ 2047 → ⊥) → n % 2048 < 2047
 below-ones n h = omega arith
@@ -60,7 +57,7 @@ returns-3 c =
     let p = c .before .before .before .before in
     let x = p .args .x in
     let i = is-inf x (held-x p) (is-number x (c .before .before .before .if1 .left)) (sym (c .before .exponent .ensures) ∙ c .if3 .taken) in
-    quotient ∙ sym (ap (λ (v : Float). rem binary64 v (p .args .y)) (i .1) ∙ rem-of-inf (i .0) (p .args .y))
+    made-nan ∙ sym (ap (λ (v : Float). rem binary64 v (p .args .y)) (i .1) ∙ rem-of-inf (i .0) (p .args .y))
 
 without-sign-requires : tie.Need-without-sign-requires
 without-sign-requires c κs = search needs
@@ -70,7 +67,7 @@ returns-4 c =
     let p = c .before .before .before .before .before .before in
     let y = p .args .y in
     let i = is-zero y (held-y p) (sym (c .before .without-sign .ensures) ∙ c .if4 .taken) in
-    quotient ∙ sym (ap (rem binary64 (p .args .x)) (i .1) ∙ rem-by-zero (p .args .x) (i .0))
+    made-nan ∙ sym (ap (rem binary64 (p .args .x)) (i .1) ∙ rem-by-zero (p .args .x) (i .0))
 
 exponent-requires-2 : tie.Need-exponent-requires-2
 exponent-requires-2 c κs = search needs

@@ -3,7 +3,8 @@ use borrow.Author.Needs.{needs}
 use mathlib.Core.Path.{sym, _∙_}
 use mathlib.Core.Logic.{⊎-elim}
 use lib.Ieee.{ofBits, ofInt}
-use Rattle.make.proofs.Tests.{made-nan, off, on, day-not-finite, time-not-finite, sum-not-finite, make-date-finite}
+use Rattle.float.proofs.Special.{made-nan}
+use Rattle.make.proofs.Tests.{off, on, day-not-finite, time-not-finite, sum-not-finite, make-date-finite}
 use Rattle.make.proofs.make_date.Statement.{statement}
 use Rattle.make.proofs.make_date.Tie as tie
 

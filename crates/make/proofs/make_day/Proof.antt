@@ -8,7 +8,8 @@ use lib.Ieee.Scale.{finite}
 use Rattle.ecma262.proofs.Machine.{true-T}
 use Rattle.calendar.specs.Calendar.{num, dayF}
 use Rattle.make.specs.Make.{wholePart, yearOfMonth, monthOfYear, monthStartF, dayOfMonthF, makeDayF}
-use Rattle.make.proofs.Tests.{made-nan, off, on, year-not-finite, month-not-finite, date-not-finite, make-day-finite, day-of-month-not-finite, day-of-month-finite}
+use Rattle.float.proofs.Special.{made-nan}
+use Rattle.make.proofs.Tests.{off, on, year-not-finite, month-not-finite, date-not-finite, make-day-finite, day-of-month-not-finite, day-of-month-finite}
 use Rattle.make.proofs.Parts.{part-whole, month-small}
 use Rattle.make.proofs.make_day.Statement.{statement}
 use Rattle.make.proofs.make_day.Tie as tie

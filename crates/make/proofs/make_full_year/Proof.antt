@@ -5,7 +5,8 @@ use mathlib.Core.Logic.{⊎-elim}
 use lib.Ieee.{ofBits, ofInt}
 use Rattle.float.proofs.Special.{nan-test}
 use Rattle.make.specs.Make.{fullYear}
-use Rattle.make.proofs.Tests.{made-nan, full-year-nan, full-year-number, full-year-small, full-year-below, full-year-above}
+use Rattle.float.proofs.Special.{made-nan}
+use Rattle.make.proofs.Tests.{full-year-nan, full-year-number, full-year-small, full-year-below, full-year-above}
 use Rattle.make.proofs.make_full_year.Statement.{statement}
 use Rattle.make.proofs.make_full_year.Tie as tie
 

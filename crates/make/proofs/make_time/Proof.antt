@@ -4,7 +4,8 @@ use mathlib.Core.Path.{sym, _∙_}
 use mathlib.Core.Logic.{⊎-elim}
 use lib.Ieee.{ofBits, ofInt}
 use Rattle.make.specs.Make.{joinTime}
-use Rattle.make.proofs.Tests.{made-nan, off, on, hour-not-finite, minute-not-finite, second-not-finite, milli-not-finite, make-time-finite}
+use Rattle.float.proofs.Special.{made-nan}
+use Rattle.make.proofs.Tests.{off, on, hour-not-finite, minute-not-finite, second-not-finite, milli-not-finite, make-time-finite}
 use Rattle.make.proofs.make_time.Statement.{statement}
 use Rattle.make.proofs.make_time.Tie as tie
 

@@ -5,7 +5,8 @@ use mathlib.Core.Bool.{cond}
 use lib.Ieee.{lt, eq, ofBits, ofInt}
 use Rattle.float.specs.Rounding.{truncF, absF}
 use Rattle.calendar.specs.Calendar.{num}
-use Rattle.make.proofs.Tests.{made-nan, off, on, clip-not-finite, clip-beyond, clip-within}
+use Rattle.float.proofs.Special.{made-nan}
+use Rattle.make.proofs.Tests.{off, on, clip-not-finite, clip-beyond, clip-within}
 use Rattle.make.proofs.time_clip.Statement.{statement}
 use Rattle.make.proofs.time_clip.Tie as tie
 

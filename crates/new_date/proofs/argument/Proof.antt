@@ -5,7 +5,7 @@ use mathlib.Core.Path.{_≡_, sym, ap, _∙_}
 use Prim.Native.Nat.{ℕ, _-_}
 use native.Mathlib.Omega.{arith}
 use lib.Ieee.{nan}
-use Rattle.make.proofs.Tests.{made-nan}
+use Rattle.float.proofs.Special.{made-nan}
 use Rattle.field_record.specs.FieldRecord.{fieldOr, placeOf}
 use Rattle.new_date.proofs.argument.Statement.{statement}
 use Rattle.new_date.proofs.argument.Tie as tie

@@ -6,7 +6,7 @@ use Prim.Native.Nat.{ℕ}
 use lib.Dec.{lit<}
 use lib.Ieee.{ofBits, ofInt}
 use Rattle.make.specs.Make.{makeDateF, makeFullYearF}
-use Rattle.make.proofs.Tests.{made-nan}
+use Rattle.float.proofs.Special.{made-nan}
 use Rattle.field_record.specs.FieldRecord.{fieldOr}
 use Rattle.field_record.proofs.Laws.{first-place}
 use Rattle.new_date.specs.Calls.{absent, newDate}
