@@ -17,8 +17,8 @@ use Rattle.field_record.specs.FieldRecord.{hasLength, hasOtherBit}
 use Rattle.new_date.specs.Calls.{Call, build, setMilliseconds, setSeconds, setMinutes, setHours, setDate, setMonth, setFullYear, bitsOf, shiftIn, valueFrom}
 
 -- "this number exactly when its fault is the first met"
-abbrev pub refuse : Bool → Refusal → Reply → Reply
-refuse met number rest = cond met (Refused number) rest
+abbrev pub refuse : {A : Type 0} → (Refusal → A) → Bool → Refusal → A → A
+refuse refused met number rest = cond met (refused number) rest
 
 -- "Every setter but `set_full_year` gives NaN for NaN; that one starts from 0, with no local shift."
 unfoldable pub valueOfNan : Call → Bool → List Record → List ℕ → Float
@@ -43,24 +43,25 @@ isRefused given.Nan = false
 isRefused given.Refused = true
 
 -- row 1, "in every call that takes one": a UTC call takes no list
-abbrev pub zoneRow : Bool → List ℕ → Reply → Reply
-zoneRow local zone rest = refuse (local && not (accepts zone)) fault.ZoneList rest
+abbrev pub zoneRow : {A : Type 0} → (Refusal → A) → Bool → List ℕ → A → A
+zoneRow refused local zone rest = refuse refused (local && not (accepts zone)) fault.ZoneList rest
 
 -- row 2
-abbrev pub timeRow : ℕ → Reply → Reply
-timeRow time rest = refuse (isRefused (timeValueOf time)) fault.TimeValue rest
+abbrev pub timeRow : {A : Type 0} → (Refusal → A) → ℕ → A → A
+timeRow refused time rest = refuse refused (isRefused (timeValueOf time)) fault.TimeValue rest
 
 -- rows 3 and 4
-abbrev pub recordRows : Call → List ℕ → Reply → Reply
-recordRows call fields rest = refuse (not (hasLength fields)) fault.RecordLength (refuse (hasOtherBit (bitsOf call) fields) fault.RecordMap rest)
+abbrev pub recordRows : {A : Type 0} → (Refusal → A) → Call → List ℕ → A → A
+recordRows refused call fields rest =
+    refuse refused (not (hasLength fields)) fault.RecordLength (refuse refused (hasOtherBit (bitsOf call) fields) fault.RecordMap rest)
 
 -- "A field result out of range is NaN with 0."
 abbrev pub timeReply : Float → Reply
 timeReply x = Time (toBits binary64 x)
 
 unfoldable pub buildOutcome : Bool → List ℕ → List ℕ → Reply
-buildOutcome local zone fields = zoneRow local zone (recordRows build fields (timeReply (valueFrom build local (records zone) nan fields)))
+buildOutcome local zone fields = zoneRow Refused local zone (recordRows Refused build fields (timeReply (valueFrom build local (records zone) nan fields)))
 
 unfoldable pub setOutcome : Call → Bool → List ℕ → ℕ → List ℕ → Reply
 setOutcome call local zone time fields =
-    zoneRow local zone (timeRow time (recordRows call fields (timeReply (valueOf call local (records zone) (timeValueOf time) fields))))
+    zoneRow Refused local zone (timeRow Refused time (recordRows Refused call fields (timeReply (valueOf call local (records zone) (timeValueOf time) fields))))

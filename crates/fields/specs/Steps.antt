@@ -1,16 +1,15 @@
 -- What the crate's private functions give, for their contracts; no outcome cites it. Definitions only. Assumes nothing.
-use mathlib.Core.Bool.{Bool, not, cond, _&&_}
+use mathlib.Core.Bool.{Bool}
 use mathlib.Core.List.{List}
 use Prim.Native.Nat.{ℕ}
 use Rattle.calendar.specs.Calendar.{num}
-use Rattle.zone.specs.Zone.{accepts, records}
+use Rattle.zone.specs.Zone.{records}
 use Rattle.timevalue.specs.declared.TimeValue.{TimeValue}
 use Rattle.timevalue.specs.declared.TimeValue.the-variants as given
 use Rattle.timevalue.specs.TimeValue.{timeValueOf}
-use Rattle.field_record.specs.FieldRecord.{hasLength, hasOtherBit}
 use Rattle.answer.specs.declared.Refusal.the-variants as fault
-use Rattle.new_date.specs.Calls.{Call, build, setMilliseconds, setSeconds, setMinutes, setHours, setDate, setMonth, setFullYear, bitsOf, shiftIn}
-use Rattle.fields.specs.Outcome.{isRefused}
+use Rattle.new_date.specs.Calls.{Call, build, setMilliseconds, setSeconds, setMinutes, setHours, setDate, setMonth, setFullYear, shiftIn}
+use Rattle.fields.specs.Outcome.{zoneRow, timeRow, recordRows}
 use Rattle.fields.specs.declared.Start.{Start}
 use Rattle.fields.specs.declared.Start.the-variants.{From, Nan, Refused}
 
@@ -33,7 +32,4 @@ startOf call local zone given.Refused = Refused fault.TimeValue
 -- the rows of a setter, and the time that it starts from
 unfoldable pub started : Call → Bool → List ℕ → ℕ → List ℕ → Start
 started call local zone time fields =
-    cond (local && not (accepts zone)) (Refused fault.ZoneList)
-    (cond (isRefused (timeValueOf time)) (Refused fault.TimeValue)
-    (cond (not (hasLength fields)) (Refused fault.RecordLength)
-    (cond (hasOtherBit (bitsOf call) fields) (Refused fault.RecordMap) (startOf call local zone (timeValueOf time)))))
+    zoneRow Refused local zone (timeRow Refused time (recordRows Refused call fields (startOf call local zone (timeValueOf time))))
