@@ -40,8 +40,9 @@ fieldAt bytes i = ofBits binary64 (littleEndian 8 bytes (placeOf bytes i))
 unfoldable pub fieldOr : List ℕ → ℕ → Float → Float
 fieldOr bytes i absent = cond (stands bytes i) (fieldAt bytes i) absent
 
--- The whole part of bit i's field where that lies from 0 to below 262,144, whose pattern it is, and 262,144 where it does not; then with a value
--- for an absent field. Below 262,144 it is a small field: of such the builder and the setters make dates in integers.
+-- The whole part of bit i's field where the field lies from +0 to below 262,144, and 262,144 for any other: a negative one, -0 among them, a
+-- larger one, an infinity and a NaN. The patterns of those fields are the ones below that of 262,144. Then with a value for an absent field.
+-- A field is small where this is below 262,144: of small fields the builder and the setters make dates in integers.
 unfoldable pub smallAt : List ℕ → ℕ → ℕ
 smallAt bytes i = cond (ltb (littleEndian 8 bytes (placeOf bytes i)) 0x4110_0000_0000_0000) (natAbs (truncZ (fieldAt bytes i))) 262_144
 

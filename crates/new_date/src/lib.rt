@@ -274,6 +274,6 @@ pub fn built_value(local: bool, zone: &[u8], fields: &[u8]) -> u64
     requires { ⌜ (hasLength (now fields) ≡ true) × Listed local (now zone) ⌝ }
     ensures { λ r. ⌜ r ≡ toBits binary64 (valueFrom build local (records (now (zone .entry))) nan (now (fields .entry))) ⌝ }
 {
-    let date = built_date(fields);
-    value_of(local, zone, date)
+    let built = built_date(fields);
+    value_of(local, zone, built)
 }
