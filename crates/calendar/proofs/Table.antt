@@ -12,8 +12,8 @@ use lib.ListN.{getD}
 use lib.Signed.{ltZ}
 use lib.Ieee.{Float, binary64, ofInt}
 use Rattle.ecma262.specs.Date.{daysBefore, monthOf, dateOf}
-use Rattle.ecma262.proofs.Int.{ints, by-test, by-cond, at, _-ᵗ_, read}
-use Rattle.ecma262.proofs.Table.{all, all-at}
+use Rattle.integers.proofs.Int.{ints, by-test, by-cond, at, _-ᵗ_, read}
+use Rattle.integers.proofs.Table.{all, all-at}
 use Rattle.ecma262.proofs.Months.{each-month, month-from, month-date, month-small}
 use Rattle.calendar.specs.Calendar.{daysInYearF, yearFromTimeF, inLeapYearF}
 

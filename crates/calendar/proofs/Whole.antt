@@ -8,10 +8,10 @@ use lib.Dec.{eqb, lit<, lit≤}
 use lib.IntN.{ℤ, pos, negsuc, natAbs, _+ℤ_, _-ℤ_}
 use lib.Signed.{mag, _≤ℤ_}
 use lib.Ieee.{Float, binary64, add, div, lt, ofInt}
-use Rattle.ecma262.specs.Whole.{floorDiv, floorMod}
-use Rattle.ecma262.specs.Date.{Day, TimeWithinDay, DaysInYear, DayFromYear, TimeFromYear, yearEstimate, YearFromTime, DayWithinYear, InLeapYear, monthOf, MonthFromTime, dateOf, DateFromTime, WeekDay, HourFromTime, MinFromTime, SecFromTime, msFromTime}
+use Rattle.integers.specs.Whole.{floorDiv, floorMod}
+use Rattle.ecma262.specs.Date.{Day, TimeWithinDay, DaysInYear, DayFromYear, TimeFromYear, yearEstimate, YearFromTime, DayWithinYear, leapOf, InLeapYear, monthOf, MonthFromTime, dateOf, DateFromTime, WeekDay, HourFromTime, MinFromTime, SecFromTime, msFromTime}
 use Rattle.ecma262.specs.Domain.{Shown}
-use Rattle.ecma262.proofs.Int.{plus, minus, ints, abs-in, abs-out, mod-small, Term, value, at, _+ᵗ_, _-ᵗ_, _*ᵗ_, _/ᵗ_, read}
+use Rattle.integers.proofs.Int.{plus, minus, ints, abs-in, abs-out, mod-small, Term, value, at, _+ᵗ_, _-ᵗ_, _*ᵗ_, _/ᵗ_, read}
 use Rattle.ecma262.proofs.Fields.{yearDay, year-day, year-day-small, date-small}
 use Rattle.ecma262.proofs.Leap.{leap-small}
 use Rattle.ecma262.proofs.Clock.{week-day-small}
@@ -19,12 +19,12 @@ use Rattle.ecma262.proofs.Range.{year-range, estimate-range, time-range}
 use Rattle.float.specs.Whole.{IsWhole}
 use Rattle.float.specs.Rounding.{floorF}
 use Rattle.float.proofs.Whole.{ofInt-whole, add-whole, sub-whole, mul-whole}
-use Rattle.float.proofs.Bounds.{floorMod-lt}
+use Rattle.integers.proofs.Floor.{floorMod-lt}
 use Rattle.float.proofs.Quotient.{floor-div}
 use Rattle.float.proofs.Modulo.{rem-euclid-whole}
 use Rattle.float.proofs.Order.{eq-whole, lt-whole}
 use Rattle.float.proofs.Casts.{toSigned-whole, toUnsigned-whole}
-use Rattle.calendar.specs.Calendar.{num, dayF, timeWithinDayF, divides, daysInYearF, yearsBy, dayFromYearF, timeFromYearF, wrap32, yearEstimateF, yearFromTimeF, dayWithinYearF, inLeapYearF, monthFromTimeF, dateFromTimeF, weekDayF, clockF, hourFromTimeF, minFromTimeF, secFromTimeF, msFromTimeF}
+use Rattle.calendar.specs.Calendar.{num, dayF, timeWithinDayF, divides, daysInYearF, yearsBy, dayFromYearF, timeFromYearF, wrap32, yearEstimateF, yearFromTimeF, dayWithinYearF, leapF, inLeapYearF, monthFromTimeF, dateFromTimeF, weekDayF, clockF, hourFromTimeF, minFromTimeF, secFromTimeF, msFromTimeF}
 
 pub num-whole : (n : ℕ) → n ≤ 2 ^ 53 → IsWhole (num n) (pos n)
 num-whole n h = ofInt-whole binary64 (pos n) h
@@ -49,6 +49,9 @@ pub days-in-year-whole : {y : Float} {z : ℤ} → IsWhole y z → daysInYearF y
 unfolding daysInYearF DaysInYear
 days-in-year-whole w =
     λ i. cond (divides-whole 400 (lit< tt) (lit≤ tt) w i) 366 (cond (divides-whole 100 (lit< tt) (lit≤ tt) w i) 365 (cond (divides-whole 4 (lit< tt) (lit≤ tt) w i) 366 365))
+
+pub leap-whole : (z : ℤ) → natAbs z ≤ 2 ^ 53 → leapF z ≡ leapOf z
+leap-whole z h = ap (λ (n : ℕ). cond (eqb n 366) 1 0) (days-in-year-whole (ofInt-whole binary64 z h))
 
 module _ (z : ℤ) (h : natAbs z ≤ 2 ^ 32) where
   years-by-whole : (n from : ℕ) → 0 < n → n < 2 ^ 53 → from ≤ 2000 → {y : Float} → IsWhole y z → IsWhole (yearsBy n from y) (floorDiv (z -ℤ pos from) n)
@@ -108,9 +111,9 @@ unfolding timeFromYearF
 time-from-year-whole {y} {z} h w = mul-whole binary64 (num-whole 86400000 (lit≤ tt)) (day-from-year-whole z (omega arith) w) (omega (arith, time-range z h))
 
 -- an i32 is what it is modulo 2^32
-pub wrap-inside : (z : ℤ) → natAbs z ≤ 2_147_483_647 → wrap32 z ≡ z
+pub wrap-inside : (z : ℤ) → (plus z ≤ minus z + 2_147_483_647) × (minus z ≤ plus z + 2_147_483_648) → wrap32 z ≡ z
 unfolding wrap32
-wrap-inside z h = omega (ints, abs-in z h, read ((at z +ᵗ at (pos 2147483648)) /ᵗ 4294967296), read (at (pos (floorMod (z +ℤ pos 2147483648) 4294967296)) -ᵗ at (pos 2147483648)))
+wrap-inside z h = omega (ints, read ((at z +ᵗ at (pos 2147483648)) /ᵗ 4294967296), read (at (pos (floorMod (z +ℤ pos 2147483648) 4294967296)) -ᵗ at (pos 2147483648)))
 
 -- ---- "divides by a mean year of 31,556,952,000 ms after adding half": sum, quotient and floor are exact
 module _ {t : Float} {z : ℤ} (w : IsWhole t z) (h : Shown z) where
@@ -126,7 +129,7 @@ module _ {t : Float} {z : ℤ} (w : IsWhole t z) (h : Shown z) where
   unfolding yearEstimateF
   year-estimate-whole =
       ap (λ (y : ℤ). wrap32 (y +ℤ pos 1970)) (toSigned-whole 31 mean-whole (small mean (omega (arith, abs-in (yearEstimate z) (estimate-range z h), read (at mean +ᵗ at (pos 1970))))))
-      ∙ wrap-inside (yearEstimate z) (omega (arith, estimate-range z h))
+      ∙ wrap-inside (yearEstimate z) (omega (arith, abs-in (yearEstimate z) (estimate-range z h)))
     where
       small : (m : ℤ) → (plus m ≤ minus m + 300000) × (minus m ≤ plus m + 300000) → mag m < 2 ^ 31
       small (pos n) k = omega arith
@@ -138,7 +141,7 @@ module _ {t : Float} {z : ℤ} (w : IsWhole t z) (h : Shown z) where
       ap (λ (y : ℤ). cond (lt t (timeFromYearF (ofInt binary64 y))) (wrap32 (y -ℤ pos 1)) y) year-estimate-whole
       ∙ ap₂ (λ (b : Bool) (y : ℤ). cond b y (yearEstimate z))
       (lt-whole w (time-from-year-whole (omega (arith, estimate-range z h)) (ofInt-whole binary64 (yearEstimate z) (omega (arith, estimate-range z h)))))
-      (wrap-inside (yearEstimate z -ℤ pos 1) (abs-out (yearEstimate z -ℤ pos 1) (omega (arith, abs-in (yearEstimate z) (estimate-range z h), read (at (yearEstimate z) -ᵗ at (pos 1))))))
+      (wrap-inside (yearEstimate z -ℤ pos 1) (omega (arith, abs-in (yearEstimate z) (estimate-range z h), read (at (yearEstimate z) -ᵗ at (pos 1)))))
 
   year-small : natAbs (YearFromTime z) ≤ 275_821
   year-small = let r : (negsuc 271820 ≤ℤ YearFromTime z) × (YearFromTime z ≤ℤ pos 275760) = year-range z h in abs-out (YearFromTime z) (omega (ints, r))
@@ -160,7 +163,7 @@ module _ {t : Float} {z : ℤ} (w : IsWhole t z) (h : Shown z) where
 
   pub in-leap-year-whole : inLeapYearF t ≡ InLeapYear z
   unfolding inLeapYearF
-  in-leap-year-whole = ap (λ (n : ℕ). cond (eqb n 366) 1 0) (days-in-year-whole year-whole)
+  in-leap-year-whole = ap leapF year-from-time-whole ∙ leap-whole (YearFromTime z) (omega (arith, year-small))
 
   pub month-from-time-whole : monthFromTimeF t ≡ MonthFromTime z
   unfolding monthFromTimeF

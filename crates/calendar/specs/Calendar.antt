@@ -5,7 +5,7 @@ use Prim.Native.Nat.{ℕ, _+_, _%_}
 use lib.Dec.{eqb}
 use lib.IntN.{ℤ, pos, natAbs, _+ℤ_, _-ℤ_}
 use lib.Ieee.{Float, binary64, add, sub, mul, div, lt, eq, ofInt, toUnsigned, toSigned}
-use Rattle.ecma262.specs.Whole.{floorMod}
+use Rattle.integers.specs.Whole.{floorMod}
 use Rattle.ecma262.specs.Date.{monthOf, dateOf}
 use Rattle.float.specs.Rounding.{floorF, remEuclidF}
 
@@ -54,13 +54,21 @@ yearEstimateF t = wrap32 (toSigned 31 (floorF (div binary64 (add binary64 t (num
 unfoldable pub yearFromTimeF : Float → ℤ
 yearFromTimeF t = cond (lt t (timeFromYearF (ofInt binary64 (yearEstimateF t)))) (wrap32 (yearEstimateF t -ℤ pos 1)) (yearEstimateF t)
 
--- (day(t) - day_from_year(year_from_time(t).into())) as u16
-unfoldable pub dayWithinYearF : Float → ℕ
-dayWithinYearF t = toUnsigned 16 (sub binary64 (dayF t) (dayFromYearF (ofInt binary64 (yearFromTimeF t))))
+-- (day(t) - day_from_year(year.into())) as u16
+abbrev pub dayWithinF : ℤ → Float → ℕ
+dayWithinF year t = toUnsigned 16 (sub binary64 (dayF t) (dayFromYearF (ofInt binary64 year)))
 
--- 1 where days_in_year(year_from_time(t).into()) == 366, else 0
+-- of the year of t
+unfoldable pub dayWithinYearF : Float → ℕ
+dayWithinYearF t = dayWithinF (yearFromTimeF t) t
+
+-- 1 where days_in_year(year.into()) == 366, else 0
+abbrev pub leapF : ℤ → ℕ
+leapF year = cond (eqb (daysInYearF (ofInt binary64 year)) 366) 1 0
+
+-- of the year of t
 unfoldable pub inLeapYearF : Float → ℕ
-inLeapYearF t = cond (eqb (daysInYearF (ofInt binary64 (yearFromTimeF t))) 366) 1 0
+inLeapYearF t = leapF (yearFromTimeF t)
 
 -- the month by the standard's steps
 unfoldable pub monthFromTimeF : Float → ℕ

@@ -5,7 +5,7 @@ use Prim.Native.Nat.{_<_}
 use lib.IntN.{ℤ, pos, negsuc, natAbs}
 use lib.Signed.{_≤ℤ_, _<ℤ_}
 use Rattle.ecma262.specs.Texts.{ascii}
-use Rattle.ecma262.proofs.Int.{ints}
+use Rattle.integers.proofs.Int.{ints}
 use Rattle.datelines.specs.Lines.{decimal, signedDecimal}
 
 pub signed-below : (x : ℤ) → x <ℤ pos 0 → signedDecimal x ≡ ascii "-" ++ decimal (natAbs x)

@@ -11,7 +11,7 @@ use lib.Dec.{ltb, eqb, ltb→lt, nltb→le, lit≤}
 use lib.ListN.{length, take, replicate, length-append}
 use lib.Seq.{take-all, take-append-le, length-take-le}
 use lib.Ieee.{binary64, ofBits}
-use Rattle.ecma262.proofs.Int.{by-test}
+use Rattle.integers.proofs.Int.{by-test}
 use Rattle.ecma262.proofs.Texts.{lengths-iso}
 use Rattle.float.specs.Whole.{truncZ}
 use Rattle.zone.specs.Zone.{accepts, records}

@@ -7,9 +7,9 @@ use lib.Ieee.{Float, binary64, ofBits, toBits}
 use lib.IntN.{ℤ, pos, negsuc, natAbs, _-ℤ_}
 use lib.Seq.{sets}
 use lib.Signed.{_≤ℤ_, _<ℤ_}
-use Rattle.ecma262.proofs.Int.{ints}
-use Rattle.ecma262.proofs.Machine.{flip}
-use Rattle.zone.specs.Bytes.{littleEndian}
+use Rattle.integers.proofs.Int.{ints}
+use Rattle.integers.proofs.Machine.{flip}
+use Rattle.little_endian.specs.Bytes.{littleEndian}
 use Rattle.doors.specs.Door.{Given, Handed, Whole, Packed, word, eightZeros}
 
 pub given : {n : ℕ} {P : Float → Type 0} → Given n P → P (ofBits binary64 n)

@@ -8,7 +8,7 @@ use lib.Ieee.{Float, binary64, ofBits, toBits}
 use mir.Syntax.{w64}
 use mir.Val.{ofZ}
 use Rattle.text.specs.Output.{Puts}
-use Rattle.zone.specs.Bytes.{littleEndian}
+use Rattle.little_endian.specs.Bytes.{littleEndian}
 use Rattle.zone.specs.Zone.{accepts}
 
 -- P of the value whose pattern is n: it is P (ofBits binary64 n), by `given` in proofs/Words.antt

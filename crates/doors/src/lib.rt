@@ -7,7 +7,7 @@ ghost use Rattle.ecma262.specs.Digits.{digits};
 ghost use Rattle.float.specs.Rounding.{floorF, truncF, absF, copysignF, remEuclidF};
 ghost use Rattle.calendar.specs.Calendar.{dayF, timeWithinDayF, daysInYearF, dayFromYearF, timeFromYearF, yearFromTimeF, dayWithinYearF, inLeapYearF, monthFromTimeF, dateFromTimeF, weekDayF, hourFromTimeF, minFromTimeF, secFromTimeF, msFromTimeF};
 ghost use Rattle.make.specs.Make.{makeTimeF, makeDayF, makeDateF, makeFullYearF, timeClipF};
-ghost use Rattle.zone.specs.Bytes.{signed};
+ghost use Rattle.little_endian.specs.Bytes.{signed};
 ghost use Rattle.zone.specs.Zone.{records, offsetAt};
 ghost use Rattle.local.specs.Local.{offsetSecondsF, localTimeF, utcF};
 ghost use Rattle.fast_atoi.specs.Join.{moved, join4, join8};
@@ -266,7 +266,7 @@ pub extern "C" fn doors_zone_offset(zone: &[u8], second: u64) -> u64
     if !zone::accept(zone) {
         return 0;
     }
-    word32(zone::lookup(zone, zone::signed64(second)))
+    word32(zone::lookup(zone, little_endian::signed64(second)))
 }
 
 #[no_mangle]
@@ -324,7 +324,7 @@ pub extern "C" fn doors_pad_two(t: u64) -> u64
 {
     let mut bytes = [0u8; 8];
     text::pad_two((t % 100) as u8, &mut bytes, 0);
-    zone::u64_at(&bytes, 0)
+    little_endian::u64_at(&bytes, 0)
 }
 
 #[no_mangle]
@@ -333,7 +333,7 @@ pub extern "C" fn doors_pad_three(t: u64) -> u64
 {
     let mut bytes = [0u8; 8];
     text::pad_three((t % 1000) as u16, &mut bytes, 0);
-    zone::u64_at(&bytes, 0)
+    little_endian::u64_at(&bytes, 0)
 }
 
 #[no_mangle]
@@ -342,7 +342,7 @@ pub extern "C" fn doors_pad_four(t: u64) -> u64
 {
     let mut bytes = [0u8; 8];
     text::pad_four((t % 10000) as u32, &mut bytes, 0);
-    zone::u64_at(&bytes, 0)
+    little_endian::u64_at(&bytes, 0)
 }
 
 #[no_mangle]
@@ -351,7 +351,7 @@ pub extern "C" fn doors_pad_five(t: u64) -> u64
 {
     let mut bytes = [0u8; 8];
     text::pad_five((t % 100000) as u32, &mut bytes, 0);
-    zone::u64_at(&bytes, 0)
+    little_endian::u64_at(&bytes, 0)
 }
 
 #[no_mangle]
@@ -360,5 +360,5 @@ pub extern "C" fn doors_pad_six(t: u64) -> u64
 {
     let mut bytes = [0u8; 8];
     text::pad_six((t % 1000000) as u32, &mut bytes, 0);
-    zone::u64_at(&bytes, 0)
+    little_endian::u64_at(&bytes, 0)
 }

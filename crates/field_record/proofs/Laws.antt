@@ -7,18 +7,13 @@ use Prim.Native.Nat.{ℕ, _+_, _*_, _/_, _%_, _^_, _≤_, _<_}
 use native.Mathlib.Nat.{mod-lt, div-add-mod', mod-one, pow-suc, div-div-eq-div-mul, le-div-iff-mul-le, div-lt-iff-lt-mul, one-mul}
 use native.Mathlib.Numerals.{add-one}
 use native.Mathlib.Omega.{arith}
-use borrow.Author.Tests.{eqb-true, eq-eqb, ne-eqb, le-leb, lt-leb, lt-ltb, le-ltb, ltb-true}
+use borrow.Author.Tests.{eqb-true, eq-eqb, ne-eqb, le-leb, lt-leb}
 use lib.Count.{ones, ones-step, ones-cat, ones-le}
-use lib.Dec.{T, leb, ltb}
-use lib.IntN.{pos, natAbs}
+use lib.Dec.{leb}
 use lib.Pow.{pow-pos}
 use lib.ListN.{length}
-use lib.Ieee.{Float, binary64, ofBits}
-use lib.Ieee.Scale.{finite}
-use Rattle.float.specs.Whole.{truncZ}
-use Rattle.float.proofs.Naturals.{natural-finite, natural-own}
-use Rattle.zone.specs.Bytes.{littleEndian}
-use Rattle.field_record.specs.FieldRecord.{mapOf, hasLength, placeOf, fieldAt, fieldOr, smallAt, smallOr}
+use lib.Ieee.{Float}
+use Rattle.field_record.specs.FieldRecord.{mapOf, stands, hasLength, placeOf, fieldAt, fieldOr}
 
 pub right-length : (bytes : List ℕ) → hasLength bytes ≡ true → length bytes ≡ 1 + 8 * ones (mapOf bytes)
 unfolding hasLength
@@ -65,43 +60,26 @@ module _ (bytes : List ℕ) (i : ℕ) where
   unfolding placeOf
   place-room f h = omega (arith, ones-own (mapOf bytes) i h, right-length bytes f)
 
-module _ (bytes : List ℕ) (i : ℕ) (absent : Float) where
-  pub field-absent : mapOf bytes / 2 ^ i % 2 ≡ 0 → fieldOr bytes i absent ≡ absent
-  unfolding fieldOr
-  field-absent h = rw (ne-eqb (mapOf bytes / 2 ^ i % 2) 1 (λ e. omega arith))
+  pub bit-absent : mapOf bytes / 2 ^ i % 2 ≡ 0 → stands bytes i ≡ false
+  bit-absent h = ne-eqb (mapOf bytes / 2 ^ i % 2) 1 (λ e. omega arith)
 
-  pub field-given : mapOf bytes / 2 ^ i % 2 ≡ 1 → fieldOr bytes i absent ≡ fieldAt bytes i
-  unfolding fieldOr
-  field-given h = rw (eq-eqb (mapOf bytes / 2 ^ i % 2) 1 h)
+  pub bit-given : mapOf bytes / 2 ^ i % 2 ≡ 1 → stands bytes i ≡ true
+  bit-given h = eq-eqb (mapOf bytes / 2 ^ i % 2) 1 h
 
--- ---- a small field
-module _ (bytes : List ℕ) (i : ℕ) (absent : ℕ) where
-  pub small-absent : mapOf bytes / 2 ^ i % 2 ≡ 0 → smallOr bytes i absent ≡ absent
-  unfolding smallOr
-  small-absent h = rw (ne-eqb (mapOf bytes / 2 ^ i % 2) 1 (λ e. omega arith))
+  module _ (absent : Float) where
+    pub field-absent : mapOf bytes / 2 ^ i % 2 ≡ 0 → fieldOr bytes i absent ≡ absent
+    unfolding fieldOr
+    field-absent h = rw (bit-absent h)
 
-  pub small-given : mapOf bytes / 2 ^ i % 2 ≡ 1 → smallOr bytes i absent ≡ smallAt bytes i
-  unfolding smallOr
-  small-given h = rw (eq-eqb (mapOf bytes / 2 ^ i % 2) 1 h)
+    pub field-given : mapOf bytes / 2 ^ i % 2 ≡ 1 → fieldOr bytes i absent ≡ fieldAt bytes i
+    unfolding fieldOr
+    field-given h = rw (bit-given h)
 
-module _ (bytes : List ℕ) (i : ℕ) where
-  abbrev bits : ℕ
-  bits = littleEndian 8 bytes (placeOf bytes i)
-
-  pub small-natural : (n : ℕ) → bits < 0x4110_0000_0000_0000 → pos n ≡ truncZ (ofBits binary64 bits) → n ≡ smallAt bytes i
-  unfolding smallAt fieldAt
-  small-natural n h e = sym (rw (lt-ltb bits 0x4110_0000_0000_0000 h) (ap natAbs (sym e)))
-
-  pub small-other : 0x4110_0000_0000_0000 ≤ bits → 262_144 ≡ smallAt bytes i
-  unfolding smallAt
-  small-other h = sym (rw (le-ltb bits 0x4110_0000_0000_0000 h))
-
-  -- THE LAW: a small field is finite, and its whole part is the number
-  pub small-is : smallAt bytes i < 262_144 → T (finite (fieldAt bytes i)) × (truncZ (fieldAt bytes i) ≡ pos (smallAt bytes i))
-  unfolding smallAt fieldAt
-  small-is h = go (ltb bits 0x4110_0000_0000_0000) refl h
-    where
-      go : (b : Bool) → ltb bits 0x4110_0000_0000_0000 ≡ b → cond b (natAbs (truncZ (ofBits binary64 bits))) 262144 < 262144
-          → T (finite (ofBits binary64 bits)) × (truncZ (ofBits binary64 bits) ≡ pos (cond b (natAbs (truncZ (ofBits binary64 bits))) 262144))
-      go true e l = let k = ltb-true bits 0x4110_0000_0000_0000 e in (natural-finite bits k, natural-own bits k)
-      go false e l = absurd (omega arith)
+-- a field read with one value for an absent one, and another in its place
+pub or-else : (bytes : List ℕ) (i : ℕ) (one other : Float) → cond (stands bytes i) (fieldOr bytes i one) other ≡ fieldOr bytes i other
+unfolding fieldOr
+or-else bytes i one other = go (stands bytes i)
+  where
+    go : (b : Bool) → cond b (cond b (fieldAt bytes i) one) other ≡ cond b (fieldAt bytes i) other
+    go true = refl
+    go false = refl

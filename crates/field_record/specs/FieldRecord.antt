@@ -1,16 +1,13 @@
 -- The field record of document 01, "Corners of date/mod.rs": "one byte of bit map, then 8 bytes (an f64's bits, low byte first) for each bit
 -- that stands, lowest bit first". Definitions only. Assumes nothing.
-use mathlib.Core.Path.{_≡_}
-use mathlib.Core.Bool.{Bool, true, cond}
+use mathlib.Core.Bool.{Bool, cond}
 use mathlib.Core.List.{List}
-use Prim.Native.Nat.{ℕ, _+_, _*_, _/_, _%_, _^_, _<_}
+use Prim.Native.Nat.{ℕ, _+_, _*_, _/_, _%_, _^_}
 use lib.Count.{ones}
-use lib.Dec.{eqb, leb, ltb}
-use lib.IntN.{natAbs}
+use lib.Dec.{eqb, leb}
 use lib.ListN.{length, getD}
 use lib.Ieee.{Float, binary64, ofBits}
-use Rattle.zone.specs.Bytes.{littleEndian}
-use Rattle.float.specs.Whole.{truncZ}
+use Rattle.little_endian.specs.Bytes.{littleEndian}
 
 -- the byte of bit map
 abbrev pub mapOf : List ℕ → ℕ
@@ -39,18 +36,3 @@ fieldAt bytes i = ofBits binary64 (littleEndian 8 bytes (placeOf bytes i))
 -- what bit i's field is, with a value for an absent one
 unfoldable pub fieldOr : List ℕ → ℕ → Float → Float
 fieldOr bytes i absent = cond (stands bytes i) (fieldAt bytes i) absent
-
--- The whole part of bit i's field where the field lies from +0 to below 262,144, and 262,144 for any other: a negative one, -0 among them, a
--- larger one, an infinity and a NaN. The patterns of those fields are the ones below that of 262,144. Then with a value for an absent field.
--- A field is small where this is below 262,144: of small fields the builder and the setters make dates in integers.
-unfoldable pub smallAt : List ℕ → ℕ → ℕ
-smallAt bytes i = cond (ltb (littleEndian 8 bytes (placeOf bytes i)) 0x4110_0000_0000_0000) (natAbs (truncZ (fieldAt bytes i))) 262_144
-
-unfoldable pub smallOr : List ℕ → ℕ → ℕ → ℕ
-smallOr bytes i absent = cond (stands bytes i) (smallAt bytes i) absent
-
--- what reading a field rests on: a record of the right length, and the place of the bit's field
-pub record IsPlace (bytes : List ℕ) (i at : ℕ) : Type 0 where
-  pub filled : hasLength bytes ≡ true
-  pub bit : i < 8
-  pub place : at ≡ placeOf bytes i

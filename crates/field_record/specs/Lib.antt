@@ -1,1 +1,2 @@
 pub mod FieldRecord
+pub mod Contracts

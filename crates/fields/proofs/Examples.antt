@@ -8,10 +8,10 @@ use lib.Dec.{T, eqb}
 use lib.Ieee.{isNan, ofBits, toBits, ofInt, eq, le, lt, add, sub, mul, div, rem, toUnsigned, toSigned}
 use Rattle.ecma262.specs.Date.{monthOf, dateOf, daysBefore}
 use Rattle.float.specs.Whole.{floorZ, truncZ}
-use Rattle.float.specs.Rounding.{truncF, floorF, absF, copysignF, remEuclidF, toIntegerOrInfinity}
+use Rattle.float.specs.Rounding.{truncF, floorF, absF, copysignF, remEuclidF, toIntegerOrInfinity, isWholeWithin}
 use Rattle.calendar.specs.Calendar.{dayF, timeWithinDayF, dayFromYearF, timeFromYearF, yearEstimateF, yearFromTimeF, dayWithinYearF, inLeapYearF, daysInYearF, monthFromTimeF, dateFromTimeF, hourFromTimeF, minFromTimeF, secFromTimeF, msFromTimeF, wrap32}
 use Rattle.make.specs.Make.{makeTimeF, makeDayF, makeDateF, makeFullYearF, fullYear, timeClipF, yearOfMonth, monthOfYear, monthStartF, dayOfMonthF}
-use Rattle.zone.specs.Bytes.{littleEndian, signed}
+use Rattle.little_endian.specs.Bytes.{littleEndian, signed}
 use Rattle.zone.specs.Zone.{accepts, records, recordAt, isZoneList, decides, offsetAt}
 use Rattle.local.specs.Local.{localTimeF, utcF, offsetSecondsF, askedSecondF}
 use Rattle.timevalue.specs.TimeValue.{timeValueOf, isTime}
@@ -83,5 +83,5 @@ rows =
     []
 
 outcomes-right : T (every rows)
-unfolding setOutcome buildOutcome valueOfNan valueFrom newDate absent fieldOr fieldAt placeOf hasLength hasOtherBit littleEndian ones timeValueOf isTime isNan ofBits toBits ofInt eq le lt add sub mul div rem toUnsigned toSigned truncF floorF absF copysignF remEuclidF toIntegerOrInfinity floorZ truncZ makeTimeF makeDayF makeDateF makeFullYearF fullYear timeClipF yearOfMonth monthOfYear monthStartF dayOfMonthF dayF timeWithinDayF dayFromYearF timeFromYearF yearEstimateF yearFromTimeF dayWithinYearF inLeapYearF daysInYearF monthFromTimeF dateFromTimeF hourFromTimeF minFromTimeF secFromTimeF msFromTimeF wrap32 monthOf dateOf daysBefore accepts records recordAt signed isZoneList decides offsetAt localTimeF utcF offsetSecondsF askedSecondF marked low right every rows
+unfolding setOutcome buildOutcome valueOfNan valueFrom newDate absent fieldOr fieldAt placeOf hasLength hasOtherBit littleEndian ones timeValueOf isTime isWholeWithin isNan ofBits toBits ofInt eq le lt add sub mul div rem toUnsigned toSigned truncF floorF absF copysignF remEuclidF toIntegerOrInfinity floorZ truncZ makeTimeF makeDayF makeDateF makeFullYearF fullYear timeClipF yearOfMonth monthOfYear monthStartF dayOfMonthF dayF timeWithinDayF dayFromYearF timeFromYearF yearEstimateF yearFromTimeF dayWithinYearF inLeapYearF daysInYearF monthFromTimeF dateFromTimeF hourFromTimeF minFromTimeF secFromTimeF msFromTimeF wrap32 monthOf dateOf daysBefore accepts records recordAt signed isZoneList decides offsetAt localTimeF utcF offsetSecondsF askedSecondF marked low right every rows
 outcomes-right = tt

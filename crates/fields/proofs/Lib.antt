@@ -1,4 +1,3 @@
-pub mod Starts
 pub mod Rows
 pub mod Values
 pub mod Outcomes

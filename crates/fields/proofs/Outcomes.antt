@@ -148,22 +148,23 @@ zone-answer local zone r a = refuse-answer (local && not (accepts zone)) fault.Z
 time-answer : (time : ℕ) (r : Reply) → IsAnswer r → IsAnswer (timeRow reply.Refused time r)
 time-answer time r a = refuse-answer (isRefused (timeValueOf time)) fault.TimeValue r a
 
-record-answer : (call : Call) (fields : List ℕ) (r : Reply) → IsAnswer r → IsAnswer (recordRows reply.Refused call fields r)
-record-answer call fields r a =
-    refuse-answer (not (hasLength fields)) fault.RecordLength (refuse reply.Refused (hasOtherBit (bitsOf call) fields) fault.RecordMap r)
-    (refuse-answer (hasOtherBit (bitsOf call) fields) fault.RecordMap r a)
+record-answer : (bits : ℕ) (fields : List ℕ) (r : Reply) → IsAnswer r → IsAnswer (recordRows reply.Refused bits fields r)
+record-answer bits fields r a =
+    refuse-answer (not (hasLength fields)) fault.RecordLength (refuse reply.Refused (hasOtherBit bits fields) fault.RecordMap r)
+    (refuse-answer (hasOtherBit bits fields) fault.RecordMap r a)
 
 pub set-answer : (call : Call) (local : Bool) (zone : List ℕ) (time : ℕ) (fields : List ℕ) → IsAnswer (setOutcome call local zone time fields)
 unfolding setOutcome
 set-answer call local zone time fields =
     let r = timeReply (valueOf call local (records zone) (timeValueOf time) fields) in
-    zone-answer local zone (timeRow reply.Refused time (recordRows reply.Refused call fields r)) (time-answer time (recordRows reply.Refused call fields r) (record-answer call fields r (a-time _ (of-time-value call local (records zone) (timeValueOf time) fields))))
+    let rows = recordRows reply.Refused (bitsOf call) fields r in
+    zone-answer local zone (timeRow reply.Refused time rows) (time-answer time rows (record-answer (bitsOf call) fields r (a-time _ (of-time-value call local (records zone) (timeValueOf time) fields))))
 
 pub build-answer : (local : Bool) (zone fields : List ℕ) → IsAnswer (buildOutcome local zone fields)
 unfolding buildOutcome
 build-answer local zone fields =
     let r = timeReply (valueFrom build local (records zone) nan fields) in
-    zone-answer local zone (recordRows reply.Refused build fields r) (record-answer build fields r (a-time _ (from-time-value build local (records zone) nan fields)))
+    zone-answer local zone (recordRows reply.Refused 7 fields r) (record-answer 7 fields r (a-time _ (from-time-value build local (records zone) nan fields)))
 
 -- ---- "the public UTC calls take none": what is handed over for a zone list does not matter
 pub set-utc : (call : Call) (zone : List ℕ) (time : ℕ) (fields : List ℕ) → setOutcome call false zone time fields ≡ setOutcome call false [] time fields

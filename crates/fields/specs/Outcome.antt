@@ -50,18 +50,18 @@ zoneRow refused local zone rest = refuse refused (local && not (accepts zone)) f
 abbrev pub timeRow : {A : Type 0} → (Refusal → A) → ℕ → A → A
 timeRow refused time rest = refuse refused (isRefused (timeValueOf time)) fault.TimeValue rest
 
--- rows 3 and 4
-abbrev pub recordRows : {A : Type 0} → (Refusal → A) → Call → List ℕ → A → A
-recordRows refused call fields rest =
-    refuse refused (not (hasLength fields)) fault.RecordLength (refuse refused (hasOtherBit (bitsOf call) fields) fault.RecordMap rest)
+-- rows 3 and 4, of a call that has so many bits
+abbrev pub recordRows : {A : Type 0} → (Refusal → A) → ℕ → List ℕ → A → A
+recordRows refused bits fields rest =
+    refuse refused (not (hasLength fields)) fault.RecordLength (refuse refused (hasOtherBit bits fields) fault.RecordMap rest)
 
 -- "A field result out of range is NaN with 0."
 abbrev pub timeReply : Float → Reply
 timeReply x = Time (toBits binary64 x)
 
 unfoldable pub buildOutcome : Bool → List ℕ → List ℕ → Reply
-buildOutcome local zone fields = zoneRow Refused local zone (recordRows Refused build fields (timeReply (valueFrom build local (records zone) nan fields)))
+buildOutcome local zone fields = zoneRow Refused local zone (recordRows Refused (bitsOf build) fields (timeReply (valueFrom build local (records zone) nan fields)))
 
 unfoldable pub setOutcome : Call → Bool → List ℕ → ℕ → List ℕ → Reply
 setOutcome call local zone time fields =
-    zoneRow Refused local zone (timeRow Refused time (recordRows Refused call fields (timeReply (valueOf call local (records zone) (timeValueOf time) fields))))
+    zoneRow Refused local zone (timeRow Refused time (recordRows Refused (bitsOf call) fields (timeReply (valueOf call local (records zone) (timeValueOf time) fields))))

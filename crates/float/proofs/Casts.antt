@@ -93,6 +93,11 @@ pub inSigned-whole : (f : Format) (h : ℕ) {x : Float} {z : ℤ} → IsWhole x 
 inSigned-whole f h {x} {z} w b r p =
     inSigned-value f h x (w .sign) (w .size) (w .value) (whole-whole f w b p) (small (w .sign) (w .size) (2 ^ h) (pow-pos h) (subst (λ (i : ℤ). mag i < 2 ^ h) (sym (w .is)) r))
 
+-- the range of 63 bits holds every whole number to 2^53
+pub in-63 : (z : ℤ) → natAbs z ≤ 2 ^ 53 → mag z < 2 ^ 63
+in-63 (pos n) h = omega arith
+in-63 (negsuc n) h = omega arith
+
 -- ---- the cast of `x + 0.0`
 zero-plain : T (plain (ofBits binary64 0))
 unfolding ofBits

@@ -1,9 +1,9 @@
 -- The whole part and the floor of the number that a bit pattern of binary64 stands for, and their patterns. Assumes nothing.
 use mathlib.Core.Path.{_≡_, refl, sym, ap, _∙_, subst}
 use Prim.Native.Nat.{ℕ, zero, suc, _+_, _-_, _*_, _/_, _%_, _^_, _≤_, _<_, compare}
-use native.Mathlib.Nat.{lt-of-le-of-lt, lt-of-lt-of-le, mod-lt, mul-one, mul-comm, mul-assoc, eq-of-mul-eq-mul-right, mul-right-comm, zero-lt-suc, add-comm, div-add-mod', mul-mod-left, mul-div-cancel, div-eq-of-lt, add-mul, mul-div-mul-right, add-mul-div-right, mod-eq-of-lt, suc-mul, div-mul-le-self, div-one, one-mul, lt-irrefl, mul-pos, mul-le-mul-right, div-lt-iff-lt-mul, le-antisymm, pow-succ'}
+use native.Mathlib.Nat.{lt-of-le-of-lt, lt-of-lt-of-le, mod-lt, mul-one, mul-comm, mul-assoc, eq-of-mul-eq-mul-right, mul-right-comm, zero-lt-suc, add-comm, div-add-mod', mul-mod-left, mul-div-cancel, div-eq-of-lt, add-mul, mul-div-mul-right, add-mul-div-right, mod-eq-of-lt, suc-mul, div-mul-le-self, div-one, one-mul, add-zero, zero-mul, lt-irrefl, mul-pos, mul-le-mul-right, div-lt-iff-lt-mul, le-antisymm, pow-succ'}
 use lib.Arith.{le→nltb}
-use mathlib.Core.Logic.{_⊎_, inl, inr}
+use mathlib.Core.Logic.{_⊎_, inl, inr, ⊎-elim}
 use native.Mathlib.Omega.{arith}
 use mathlib.Core.Bool.{Bool, true, false, cond, not}
 use lib.Dec.{T, ltb, eqb, ltb→lt, nltb→le, lt→ltb, eqb→eq, not-T, lit<}
@@ -485,5 +485,34 @@ floor-number (inf s) h = tt
 floor-number (fin s m e) h = subst (λ (v : Float). T (not (isNan v))) (sym (floor-fin s m e)) (whole-number s (frac.down s (m * up e) (down e)))
 
 -- `1 << k`
-pub shifted-one : (k : ℕ) → k < 64 → 1 * 2 ^ k % 2 ^ 64 ≡ 2 ^ k
+shifted-one : (k : ℕ) → k < 64 → 1 * 2 ^ k % 2 ^ 64 ≡ 2 ^ k
 shifted-one k h = ap (λ (n : ℕ). n % 2 ^ 64) (one-mul (2 ^ k)) ∙ mod-eq-of-lt (pow-lt h)
+
+-- ---- the floor by the bit n that is added to the whole part: the sign's bit of a number that has a fraction, and 0 of any other
+abbrev pub Below : ℕ → ℕ → ℕ → Type 0
+Below b k n = ((cut b k ≡ b) × (n ≡ 0)) ⊎ ((cut b k ≡ b → ⊥) × (n ≡ b / 2 ^ 63))
+
+module _ {b : ℕ} {v : Float} {k n : ℕ} (l : b < 2 ^ 64) (F : Floor b v k) (w : Below b k n) where
+  pub floor-kept : n ≡ 0 → ofBits binary64 (cut b k) ≡ floorF v
+  floor-kept z = ⊎-elim (λ p. ap (ofBits binary64) (p .0) ∙ F .own (p .0)) (λ p. F .plus (sym (p .1) ∙ z)) w
+
+  pub floor-one : (n ≡ 0 → ⊥) → k ≡ 63 → ofBits binary64 0xbff0_0000_0000_0000 ≡ floorF v
+  floor-one h e = ⊎-elim (λ p. absurd (h (p .1))) (λ p. F .one (λ z. h (p .1 ∙ z)) (p .0) e) w
+
+  pub floor-sum : (k ≡ 63 → ⊥) → (cut b k + n * 2 ^ k % 2 ^ 64 < 2 ^ 64) × (ofBits binary64 (cut b k + n * 2 ^ k % 2 ^ 64) ≡ floorF v)
+  floor-sum h = at n refl (⊎-elim (λ p. omega arith) (λ p. omega arith) w)
+    where
+      Sum : ℕ → Type 0
+      Sum a = (a < 2 ^ 64) × (ofBits binary64 a ≡ floorF v)
+
+      at : (m : ℕ) → m ≡ n → m ≤ 1 → Sum (cut b k + m * 2 ^ k % 2 ^ 64)
+      at zero e u =
+          subst Sum (sym (ap (λ (i : ℕ). cut b k + i % 2 ^ 64) (zero-mul (2 ^ k)) ∙ add-zero (cut b k)))
+          (lt-of-le-of-lt (div-mul-le-self b (2 ^ k)) l, floor-kept (sym e))
+      at (suc zero) e u =
+          subst Sum (sym (ap (λ (i : ℕ). cut b k + i) (shifted-one k (F .small))))
+          (⊎-elim (λ p. absurd (some (e ∙ p .1))) (λ p. F .next (λ z. some (e ∙ p .1 ∙ z)) (p .0) h) w)
+        where
+          some : _≡_ {A = ℕ} 1 0 → ⊥
+          some z = omega arith
+      at (suc (suc m)) e u = absurd (omega arith)

@@ -11,7 +11,7 @@ use lib.Dec.{T, eqb, eqb→eq, not-T}
 use lib.Ieee.Bits.{is-true, is-false}
 use lib.Ieee.Fits.{eq→eqb}
 use lib.Ieee.Nearest.{div-same}
-use Rattle.ecma262.specs.Whole.{floorDiv}
+use Rattle.integers.specs.Whole.{floorDiv}
 use Rattle.float.specs.Whole.{signed}
 
 -- two tests that follow from each other

@@ -6,14 +6,13 @@ pub mod Order
 pub mod Casts
 pub mod Modulo
 pub mod Literal
-pub mod Bounds
 pub mod Finite
 pub mod Rounding
 pub mod Fractions
 pub mod Special
 pub mod Integer
-pub mod Naturals
-mod Saturation
+pub mod Within
+pub mod Saturation
 mod Patterns
 mod Clearing
 mod Digits

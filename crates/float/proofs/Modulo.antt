@@ -11,7 +11,7 @@ use lib.Dec.{ltb}
 use lib.Arith.{le→nltb}
 use lib.Ieee.{Float, Format, binary64, prec, rem, add, lt}
 use lib.Ieee.Bits.{cond-no, is-false}
-use Rattle.ecma262.specs.Whole.{floorMod}
+use Rattle.integers.specs.Whole.{floorMod}
 use Rattle.float.specs.Whole.{signed, IsWhole}
 use Rattle.float.specs.Rounding.{remEuclidF}
 use Rattle.float.proofs.Ops.{rem-is}

@@ -3,17 +3,17 @@ use mathlib.Core.Path.{_≡_, refl, sym, ap, ap₂, _∙_, subst}
 use Prim.Native.Nat.{ℕ, zero, suc, _+_, _*_, _/_, _≤_, _<_}
 use native.Mathlib.Nat.{zero-add, mul-pos, add-mul, zero-mul, zero-lt-suc, eq-of-mul-eq-mul-right, mul-right-comm, le-of-suc-le-suc, div-lt-iff-lt-mul, lt-of-mul-lt-mul-right, mul-lt-mul-of-pos-right, lt-of-le-of-lt, le-refl}
 use native.Mathlib.Omega.{arith}
-use mathlib.Core.Bool.{Bool, true, false, not, _&&_, _||_, Bool·beq, true≢false}
+use mathlib.Core.Bool.{Bool, true, false, _&&_, _||_, Bool·beq, true≢false}
 use mathlib.Core.Logic.{_≢_}
 use lib.IntN.{ℤ, pos, negsuc, natAbs}
 use lib.Signed.{ltZ, leZ, _≤ℤ_, _<ℤ_, leZ-yes, ltZ-yes, clashℤ}
 use lib.Dec.{T, leb, ltb, eqb, ltb→lt, lt→ltb, eqb→eq, eqb-refl, nltb→le, not-T, leb·zero, leb·suc-zero, leb·suc-suc, eqb·zero-suc, eqb·suc-zero, eqb·suc-suc}
-use lib.Ieee.{Float, nan, inf, fin, up, down, below, level, lt, eq, le, ne}
+use lib.Ieee.{Float, nan, inf, fin, up, down, below, level, lt, eq, le}
 use lib.Ieee.Fits.{down-pos, eq→eqb, and-l, and-r}
 use lib.Ieee.Exact.{HasValue}
 use lib.Ieee.Bits.{is-true, is-false}
 use lib.Ieee.Scale.{finite}
-use Rattle.ecma262.proofs.Machine.{true-T, false-T, le-true, le-false, lt-true, lt-false}
+use Rattle.integers.proofs.Machine.{true-T, false-T, le-true}
 use Rattle.float.specs.Whole.{signed, IsWhole, truncZ}
 use Rattle.float.specs.Rounding.{absF}
 use Rattle.float.proofs.Fractions.{same-test, natAbs-signed}
@@ -160,39 +160,16 @@ eqZ-same z w q = ap (λ (i : ℤ). eqZ i w) q ∙ own w
     own (pos n) = is-true (eqb n n) (eqb-refl n)
     own (negsuc n) = is-true (eqb n n) (eqb-refl n)
 
-flip : (b c : Bool) → not b ≡ c → b ≡ not c
-flip true true e = absurd (true≢false (sym e))
-flip true false e = refl
-flip false true e = refl
-flip false false e = absurd (true≢false e)
-
 -- ---- a test that passed, and one that failed
 module _ {x y : Float} {z w : ℤ} (u : IsWhole x z) (v : IsWhole y w) where
-  pub lt-yes : lt x y ≡ true → z <ℤ w
-  lt-yes e = lt-true (sym (lt-whole u v) ∙ e)
-
-  pub lt-no : lt x y ≡ false → w ≤ℤ z
-  lt-no e = lt-false (sym (lt-whole u v) ∙ e)
-
   pub le-yes : le x y ≡ true → z ≤ℤ w
   le-yes e = le-true (sym (le-whole u v) ∙ e)
-
-  pub le-no : le x y ≡ false → w <ℤ z
-  le-no e = le-false (sym (le-whole u v) ∙ e)
 
   pub eq-yes : eq x y ≡ true → z ≡ w
   eq-yes e = eqZ→eq z w (true-T (eqZ z w) (sym (eq-whole u v) ∙ e))
 
   pub eq-no : eq x y ≡ false → z ≢ w
   eq-no e q = true≢false (sym (eqZ-same z w q) ∙ sym (eq-whole u v) ∙ e)
-
-  pub ne-yes : ne x y ≡ true → z ≢ w
-  unfolding ne
-  ne-yes e = eq-no (flip (eq x y) true e)
-
-  pub ne-no : ne x y ≡ false → z ≡ w
-  unfolding ne
-  ne-no e = eq-yes (flip (eq x y) false e)
 
   -- ---- and the outcome, from the order of the whole numbers
   pub lt-holds : z <ℤ w → lt x y ≡ true
@@ -209,9 +186,6 @@ module _ {x y : Float} {z w : ℤ} (u : IsWhole x z) (v : IsWhole y w) where
 
   pub eq-holds : z ≡ w → eq x y ≡ true
   eq-holds q = eq-whole u v ∙ eqZ-same z w q
-
-  pub eq-fails : z ≢ w → eq x y ≡ false
-  eq-fails n = eq-whole u v ∙ is-false (eqZ z w) (not-T (eqZ z w) (λ t. n (eqZ→eq z w t)))
 
 at-most : (X D Y E n : ℕ) → 0 < D → 0 < E → Y * 1 ≡ n * E → ltb (Y * D) (X * E) ≡ false → X / D ≤ n
 at-most X D Y E n DP EP h t =

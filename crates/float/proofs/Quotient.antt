@@ -12,7 +12,7 @@ use lib.Pow.{pow-pos}
 use lib.Ieee.{Float, Format, binary64, prec, low, unlike, round, div}
 use lib.Ieee.Fits.{div-fits}
 use lib.Ieee.Scale.{grid, finite}
-use Rattle.ecma262.specs.Whole.{floorDiv, floorMod}
+use Rattle.integers.specs.Whole.{floorDiv, floorMod}
 use Rattle.float.specs.Whole.{signed, IsWhole, floorZ}
 use Rattle.float.specs.Rounding.{floorF}
 use Rattle.float.proofs.Fractions.{down, ceil-exact, floor-signed, floor-same, floor-in}

@@ -16,7 +16,7 @@ use lib.Ieee.Exact.{HasValue, round-exact}
 use lib.Ieee.Back.{round-whole, whole-unique}
 use lib.Ieee.Nearest.{div-same}
 use lib.Ieee.Scale.{finite}
-use Rattle.ecma262.specs.Whole.{floorDiv}
+use Rattle.integers.specs.Whole.{floorDiv}
 use Rattle.float.specs.Whole.{signed, IsWhole, floorZ, truncZ}
 use Rattle.float.specs.Rounding.{truncF, floorF, withSign, absF, copysignF, toIntegerOrInfinity}
 use Rattle.float.proofs.Fractions as frac

@@ -16,8 +16,8 @@ use lib.Ieee.Fits.{down-pos}
 use mir.Syntax.{w64}
 use mir.Val.{toZ, ofZ}
 use mir.Facts.{toZ-ofZ}
-use Rattle.ecma262.proofs.Machine.{false-T}
-use Rattle.ecma262.proofs.Int.{plus, neg-fact}
+use Rattle.integers.proofs.Machine.{false-T}
+use Rattle.integers.proofs.Int.{plus, neg-fact}
 
 -- ---- `x as i64` beyond the range
 

@@ -1,7 +1,7 @@
 -- What Rust's `floor`, `trunc`, `abs`, `copysign` and `rem_euclid` of an `f64` are, and ECMA-262's ToIntegerOrInfinity, over the values of
 -- logic/Lib/Ieee.antt. Definitions only.
-use mathlib.Core.Bool.{Bool, false, cond}
-use lib.Ieee.{Float, nan, inf, fin, binary64, ofInt, ofBits, add, rem, lt}
+use mathlib.Core.Bool.{Bool, false, cond, _&&_}
+use lib.Ieee.{Float, nan, inf, fin, binary64, ofInt, ofBits, add, rem, lt, le, eq}
 use Rattle.float.specs.Whole.{floorZ, truncZ}
 
 -- x with the sign s in place of its own
@@ -50,3 +50,7 @@ unfoldable pub toIntegerOrInfinity : Float → Float
 toIntegerOrInfinity nan = ofBits binary64 0
 toIntegerOrInfinity (inf s) = inf s
 toIntegerOrInfinity (fin s m e) = ofInt binary64 (truncZ (fin s m e))
+
+-- Whether x is a whole number, and no larger than `most` either way: its own whole part. An infinity is larger; a NaN equals nothing.
+unfoldable pub isWholeWithin : Float → Float → Bool
+isWholeWithin most x = eq (truncF x) x && le (absF x) most

@@ -2,13 +2,13 @@
 -- `fin s m e` is the number m * 2 ^ e, negative where s is true, and 2 ^ e is the fraction up e / down e (logic/Lib/Ieee.antt).
 -- So its magnitude is the fraction m * up e / down e.
 use mathlib.Core.Path.{_≡_}
-use Prim.Native.Nat.{ℕ, _*_, _/_}
+use Prim.Native.Nat.{ℕ, _*_, _/_, _≤_}
 use mathlib.Core.Bool.{Bool, true, false, not, _&&_}
-use lib.IntN.{ℤ, pos, negℤ}
+use lib.IntN.{ℤ, pos, negℤ, natAbs}
 use lib.Dec.{eqb}
 use lib.Ieee.{Float, nan, inf, fin, up, down}
 use lib.Ieee.Exact.{HasValue}
-use Rattle.ecma262.specs.Whole.{floorDiv}
+use Rattle.integers.specs.Whole.{floorDiv}
 
 -- n, or -n where s is true
 abbrev pub signed : Bool → ℕ → ℤ
@@ -33,6 +33,11 @@ unfoldable pub truncZ : Float → ℤ
 truncZ nan = pos 0
 truncZ (inf s) = pos 0
 truncZ (fin s m e) = signed s (m * up e / down e)
+
+-- x is a whole number, and no larger than n either way
+pub record WholeWithin (n : ℕ) (x : Float) : Type 0 where
+  pub whole : IsWhole x (truncZ x)
+  pub size : natAbs (truncZ x) ≤ n
 
 -- x is not -0, the one zero that Rattle's `as` an integer refuses
 abbrev pub plain : Float → Bool

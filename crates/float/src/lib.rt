@@ -3,12 +3,11 @@
 ghost use mathlib.Core.Path.{_≡_};
 ghost use mathlib.Core.Bool.{false};
 ghost use Prim.Native.Nat.{_+_, _-_, _*_, _/_, _%_, _^_, _<_, _≤_};
-ghost use lib.IntN.{pos};
 ghost use lib.Ieee.Scale.{finite};
 ghost use lib.Ieee.{binary64, ofBits, toBits, round, rem, isNan, toUnsigned, toSigned};
-ghost use Rattle.float.specs.Rounding.{truncF, floorF, absF, copysignF, remEuclidF, toIntegerOrInfinity};
+ghost use Rattle.float.specs.Rounding.{truncF, floorF, absF, copysignF, remEuclidF, toIntegerOrInfinity, isWholeWithin};
 ghost use Rattle.float.specs.Patterns.{fractionBits, lead, place};
-ghost use Rattle.float.specs.Whole.{truncZ};
+ghost use Rattle.float.specs.Whole.{truncZ, WholeWithin};
 
 // ---- a pattern's parts
 
@@ -128,16 +127,11 @@ fn floor_bits(b: u64) -> u64
 {
     let k = fraction_bits(exponent(b));
     let c = clear_low(b, k);
-    if c == b {
-        return b;
-    }
-    if b >> 63 == 0 {
-        return c;
-    }
+    let below = if c == b { 0 } else { b >> 63 };
     if k == 63 {
-        return 0xbff0_0000_0000_0000;
+        return if below == 0 { c } else { 0xbff0_0000_0000_0000 };
     }
-    c + (1 << k)
+    c + (below << k)
 }
 
 // Rust's `trunc`: toward zero. The sign stays, so -0.5 gives -0.0.
@@ -290,10 +284,35 @@ pub fn rem_euclid(x: f64, y: f64) -> f64
 
 // ---- integers
 
-// Rust's `x as i64`: toward zero, to the nearer end of the range where x is beyond it, and 0 for a NaN.
+// Whether x is a whole number, and no larger than `most` either way: no NaN is, and of any other the pattern is that of its whole part.
+pub fn is_whole_within(x: f64, most: f64) -> bool
+    ensures { λ r. ⌜ r ≡ isWholeWithin most x ⌝ }
+{
+    if x != x {
+        return false;
+    }
+    if abs(x) <= most {
+        let b = f64::to_bits(x);
+        return trunc_bits(b) == b;
+    }
+    false
+}
+
+// A whole number as an integer. A sum with 0.0 is never -0, which the cast does not take.
+pub fn exact_i64(x: f64) -> i64
+    requires { ⌜ WholeWithin (2 ^ 53) x ⌝ }
+    ensures { λ r. ⌜ r ≡ truncZ x ⌝ }
+{
+    (x + 0.0) as i64
+}
+
+// Rust's `x as i64`: toward zero, to the nearer end of the range where x is beyond it, and 0 for a NaN. A whole number to 2^53 takes one cast.
 pub fn as_i64(x: f64) -> i64
     ensures { λ r. ⌜ r ≡ toSigned 63 x ⌝ }
 {
+    if is_whole_within(x, 9007199254740992.0) {
+        return exact_i64(x);
+    }
     if x < 9223372036854775808.0 {
         if x >= -9223372036854775808.0 {
             std::num::truncating_f64_to_i64(x)
@@ -305,18 +324,6 @@ pub fn as_i64(x: f64) -> i64
     } else {
         0x7fff_ffff_ffff_ffff
     }
-}
-
-// The whole part of a number from 0 to below 2 ^ 18, by its pattern.
-pub fn natural(b: u64) -> u32
-    requires { ⌜ b < 0x4110_0000_0000_0000 ⌝ }
-    ensures { λ r. ⌜ pos r ≡ truncZ (ofBits binary64 b) ⌝ }
-{
-    let e = b >> 52;
-    if e < 1023 {
-        return 0;
-    }
-    ((0x10_0000_0000_0000 + (b & 0xf_ffff_ffff_ffff)) >> (1075 - e)) as u32
 }
 
 // Rust's `x as i32`.

@@ -1,5 +1,4 @@
 pub mod Tests
 pub mod Whole
 pub mod Seconds
-mod Counted
 mod Examples

@@ -9,7 +9,7 @@ use lib.Dec.{T, ltb, ltb→lt, nltb→le}
 use lib.IntN.{pos, negsuc, negℤ}
 use lib.Ieee.{Float, nan, inf, fin, binary64, up, down, add, sub, div, toSigned}
 use lib.Ieee.Scale.{finite}
-use Rattle.ecma262.proofs.Int.{by-cond}
+use Rattle.integers.proofs.Int.{by-cond}
 use Rattle.float.specs.Whole.{signed, truncZ}
 use Rattle.float.specs.Rounding.{remEuclidF}
 use Rattle.float.proofs.Special.{sub-nan-right, div-nan-left, rem-euclid-inf}

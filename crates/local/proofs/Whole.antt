@@ -4,19 +4,18 @@ use mathlib.Core.Path.{_≡_, sym, ap, subst}
 use mathlib.Core.List.{List}
 use Prim.Native.Nat.{ℕ, _+_, _^_, _≤_, _<_}
 use native.Mathlib.Omega.{arith}
-use lib.Dec.{T, lit<, lit≤}
+use lib.Dec.{lit<, lit≤}
 use lib.IntN.{ℤ, pos, negsuc, natAbs, _-ℤ_, _*ℤ_}
 use lib.Signed.{mag}
 use lib.Ieee.{Float, binary64, ofInt}
 use lib.Ieee.Bits.{is-true}
-use lib.Ieee.Fits.{add-fits}
 use lib.Ieee.Scale.{finite}
-use Rattle.ecma262.specs.Whole.{floorDiv, floorMod}
+use Rattle.integers.specs.Whole.{floorDiv, floorMod}
 use Rattle.ecma262.specs.Date.{InRange}
 use Rattle.ecma262.specs.Domain.{Shown}
-use Rattle.ecma262.proofs.Int.{plus, minus, ints, abs-in, abs-out, at, _+ᵗ_, _-ᵗ_, _ᵗ*_, _/ᵗ_, read}
-use Rattle.float.specs.Whole.{IsWhole, plain}
-use Rattle.float.proofs.Whole.{ofInt-whole, add-whole, sub-whole, mul-whole, add-plain-left, int-unique}
+use Rattle.integers.proofs.Int.{plus, minus, ints, abs-in, abs-out, at, _+ᵗ_, _-ᵗ_, _ᵗ*_, _/ᵗ_, read}
+use Rattle.float.specs.Whole.{IsWhole}
+use Rattle.float.proofs.Whole.{ofInt-whole, add-whole, sub-whole, mul-whole}
 use Rattle.float.proofs.Rounding.{whole-finite}
 use Rattle.float.proofs.Modulo.{rem-euclid-whole}
 use Rattle.float.proofs.Quotient.{div-exact}
@@ -97,15 +96,6 @@ module _ (list : List Record) (rule : IsZoneList list) (z : ℤ) where
     pub local-time-whole : {t : Float} → IsWhole t z → IsWhole (localTimeF list t) (localTime list z)
     unfolding localTimeF localTime
     local-time-whole w = add-whole binary64 w (shift-whole w) (omega (arith, local-time-bound h))
-
-    -- of a time that is not -0, the very float
-    pub local-time-int : {t : Float} → IsWhole t z → T (plain t) → ofInt binary64 (localTime list z) ≡ localTimeF list t
-    unfolding localTimeF localTime
-    local-time-int {t} w p =
-        sym (int-unique (add-fits binary64 t (shiftF list t)) (add-whole binary64 w (shift-whole w) near) (add-plain-left binary64 w (shift-whole w) near p) near)
-      where
-        near : natAbs (localTime list z) ≤ 2 ^ 53
-        near = omega (arith, local-time-bound h)
 
     pub utc-whole : {t : Float} → IsWhole t z → IsWhole (utcF list t) (utcTime list z)
     unfolding utcTime offsetOfLocal

@@ -6,7 +6,7 @@ use mathlib.Core.List.{List}
 use lib.IntN.{ℤ, pos, _+ℤ_, _-ℤ_, _*ℤ_}
 use lib.Ieee.{Float, nan, binary64, add, sub, mul, div, ofInt, toSigned}
 use lib.Ieee.Scale.{finite}
-use Rattle.ecma262.specs.Whole.{floorDiv}
+use Rattle.integers.specs.Whole.{floorDiv}
 use Rattle.ecma262.specs.Date.{msPerSecond}
 use Rattle.float.specs.Rounding.{remEuclidF}
 use Rattle.calendar.specs.Calendar.{num}

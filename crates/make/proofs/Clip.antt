@@ -12,8 +12,8 @@ use lib.Ieee.Bits.{is-true}
 use lib.Ieee.Fits.{ofInt-fits}
 use lib.Ieee.Scale.{finite}
 use Rattle.ecma262.specs.Date.{timeRange, InRange, TimeClip}
-use Rattle.ecma262.proofs.Int.{ints, by-test}
-use Rattle.ecma262.proofs.Machine.{true-T}
+use Rattle.integers.proofs.Int.{ints, by-test}
+use Rattle.integers.proofs.Machine.{true-T}
 use Rattle.ecma262.proofs.Range.{clip-inside, clip-outside}
 use Rattle.float.specs.Whole.{IsWhole, truncZ}
 use Rattle.float.specs.Rounding.{truncF, absF}
@@ -81,5 +81,3 @@ module _ {t : Float} {z : ℤ} (w : IsWhole t z) where
   clip-exact = by-test (leb (natAbs z) timeRange)
       (λ y. let r : InRange z = leb→le (natAbs z) timeRange y in clip-inside-whole r ∙ ap timeValue (sym (clip-inside z r)))
       (λ n. let r : timeRange < natAbs z = nleb→lt (natAbs z) timeRange n in clip-outside-whole r ∙ ap timeValue (sym (clip-outside z r)))
-
--- ---- a time value is a value of the format, and not -0

@@ -7,19 +7,21 @@ use Prim.Native.Nat.{ℕ, _+_, _*_, _^_, _≤_, _<_}
 use native.Mathlib.Omega.{arith}
 use lib.Dec.{ltb, ltb→lt, nltb→le, lit<, lit≤}
 use lib.IntN.{ℤ, pos, negsuc, natAbs, _+ℤ_, _-ℤ_, _*ℤ_}
-use lib.Ieee.{Float, binary64, add, sub, mul, isNan}
+use lib.Signed.{_≤ℤ_}
+use lib.Ieee.{Float, binary64, add, sub, mul, isNan, ofInt}
 use lib.Ieee.Bits.{is-true, is-false}
+use lib.Ieee.Fits.{sub-fits}
 use lib.Ieee.Scale.{finite}
-use Rattle.ecma262.specs.Whole.{floorDiv, floorMod}
+use Rattle.integers.specs.Whole.{floorDiv, floorMod}
 use Rattle.ecma262.specs.Date.{DayFromYear, daysBefore, firstOfMonth, MakeTime, MakeDay, MakeDate, MakeFullYear}
 use Rattle.ecma262.specs.Domain.{ExactDay, ExactTime}
-use Rattle.ecma262.proofs.Int.{plus, minus, ints, abs-in, abs-out, mod-small, by-cond, Term, value, at, _+ᵗ_, _-ᵗ_, _ᵗ*_, read}
+use Rattle.integers.proofs.Int.{plus, minus, ints, abs-in, abs-out, mod-small, by-cond, Term, value, at, _+ᵗ_, _-ᵗ_, _ᵗ*_, _/ᵗ_, read}
 use Rattle.ecma262.proofs.Months.{month-nonempty, month-within}
 use Rattle.ecma262.proofs.Fields.{rust-make-day, day-of-days}
 use Rattle.ecma262.proofs.Range.{day-range, first-range, make-day-range, make-time-range, make-date-range}
 use Rattle.float.specs.Whole.{IsWhole}
 use Rattle.float.specs.Rounding.{toIntegerOrInfinity}
-use Rattle.float.proofs.Whole.{add-whole, sub-whole, mul-whole}
+use Rattle.float.proofs.Whole.{neg-whole, add-whole, sub-whole, mul-whole, add-plain, plain-nonzero, int-unique}
 use Rattle.float.proofs.Rounding.{whole-finite}
 use Rattle.float.proofs.Quotient.{floor-div}
 use Rattle.float.proofs.Order.{le-holds, le-fails}
@@ -27,8 +29,8 @@ use Rattle.float.proofs.Integer.{integer-whole}
 use Rattle.float.proofs.Special.{finite-number}
 use Rattle.calendar.specs.Calendar.{num, dayF, dayFromYearF}
 use Rattle.calendar.proofs.Whole.{num-whole, day-whole, day-from-year-whole}
-use Rattle.make.specs.Make.{wholePart, joinTime, makeTimeF, yearOfMonth, rest, monthStartF, makeDayF, makeDateF, fullYear, makeFullYearF, IsField}
-use Rattle.make.proofs.Tests.{make-time-finite, make-day-finite, day-of-month-finite, make-date-finite, full-year-number, full-year-small, full-year-below, full-year-above}
+use Rattle.make.specs.Make.{wholePart, joinTime, makeTimeF, yearOfMonth, monthOfYear, rest, monthStartF, makeDayF, makeDateF, fullYear, makeFullYearF, IsField}
+use Rattle.make.proofs.Tests.{make-time-sum, make-day-finite, day-of-month-finite, make-date-finite, full-year-number, full-year-small, full-year-below, full-year-above}
 use Rattle.make.proofs.Parts.{field-part, month-whole}
 
 number : {x : Float} {z : ℤ} → IsField x z → finite x ≡ true
@@ -67,8 +69,8 @@ module _ (h m s ms : ℤ) (e : ExactTime h m s ms) where
 pub make-time-exact : {hour min sec ms : Float} {h m s milli : ℤ} → IsField hour h → IsField min m → IsField sec s → IsField ms milli → ExactTime h m s milli
     → IsWhole (makeTimeF hour min sec ms) (MakeTime h m s milli)
 make-time-exact {hour} {min} {sec} {ms} {h} {m} {s} {milli} a b c d e =
-    subst (λ (x : Float). IsWhole x (MakeTime h m s milli)) (sym (make-time-finite hour min sec ms (number a) (number b) (number c) (number d)))
-    (join-time-whole h m s milli e (field-part a) (field-part b) (field-part c) (field-part d))
+    let w = join-time-whole h m s milli e (field-part a) (field-part b) (field-part c) (field-part d) in
+    subst (λ (x : Float). IsWhole x (MakeTime h m s milli)) (sym (make-time-sum hour min sec ms (whole-number w))) w
 
 -- ---- MakeDay: the year after the month's carry, and the time of the month's first day
 year-of-month-whole : {y m : Float} {a b : ℤ} → IsWhole y a → IsWhole m b → natAbs (a +ℤ floorDiv b 12) ≤ 280_000 → natAbs b ≤ 6_000_000 → IsWhole (yearOfMonth y m) (a +ℤ floorDiv b 12)
@@ -111,32 +113,60 @@ module _ (ym : ℤ) (mn : ℕ) (h : natAbs ym ≤ 280_000) (k : mn < 12) where
       subst (IsWhole _) (day-of-days (firstOfMonth ym mn))
       (day-whole (mul-whole binary64 (first-whole w) (num-whole 86400000 (lit≤ tt)) (omega (arith, start-small))) start-small)
 
-pub make-day-exact : {year month date : Float} {y m dt : ℤ} → IsField year y → IsField month m → IsField date dt → ExactDay y m dt
-    → IsWhole (makeDayF year month date) (MakeDay y m dt)
-unfolding MakeDay
-make-day-exact {year} {month} {date} {y} {m} {dt} a b c e =
-    subst (λ (x : Float). IsWhole x (MakeDay y m dt)) (sym (make-day-finite year month date (number a) (number b) (number c) ∙ day-of-month-finite ym _ _ (whole-number carried)))
-    (subst (λ (n : ℕ). IsWhole (sub binary64 (add binary64 (dayF (monthStartF ym n)) (wholePart date)) (num 1)) (MakeDay y m dt)) (sym (month-whole (field-part b)))
-    (sub-whole binary64
-    (add-whole binary64 (first-day-whole (y +ℤ floorDiv m 12) (floorMod m 12) (e .year) (mod-small m 11) carried) (field-part c)
-    (abs-out (first +ℤ dt) (omega (arith, abs-in first (first-small (y +ℤ floorDiv m 12) (floorMod m 12) (e .year) (mod-small m 11)), abs-in dt (e .date), read (at first +ᵗ at dt)))))
-    (num-whole 1 (lit≤ tt)) (omega (arith, make-day-range y m dt e))))
-  where
-    ym : Float
-    ym = yearOfMonth (wholePart year) (wholePart month)
+module _ {year month date : Float} {y m dt : ℤ} (a : IsField year y) (b : IsField month m) (c : IsField date dt) (e : ExactDay y m dt) where
+  abbrev ym : Float
+  ym = yearOfMonth (wholePart year) (wholePart month)
 
-    first : ℤ
-    first = firstOfMonth (y +ℤ floorDiv m 12) (floorMod m 12)
+  abbrev first : ℤ
+  first = firstOfMonth (y +ℤ floorDiv m 12) (floorMod m 12)
 
-    carried : IsWhole ym (y +ℤ floorDiv m 12)
-    carried = year-of-month-whole (field-part a) (field-part b) (e .year) (e .month)
+  -- Day(t) + dt
+  abbrev counted : Float
+  counted = add binary64 (dayF (monthStartF ym (monthOfYear (wholePart month)))) (wholePart date)
+
+  carried : IsWhole ym (y +ℤ floorDiv m 12)
+  carried = year-of-month-whole (field-part a) (field-part b) (e .year) (e .month)
+
+  counted-whole : IsWhole counted (first +ℤ dt)
+  counted-whole =
+      subst (λ (n : ℕ). IsWhole (add binary64 (dayF (monthStartF ym n)) (wholePart date)) (first +ℤ dt)) (sym (month-whole (field-part b)))
+      (add-whole binary64 (first-day-whole (y +ℤ floorDiv m 12) (floorMod m 12) (e .year) (mod-small m 11) carried) (field-part c)
+      (abs-out (first +ℤ dt) (omega (arith, abs-in first (first-small (y +ℤ floorDiv m 12) (floorMod m 12) (e .year) (mod-small m 11)), abs-in dt (e .date), read (at first +ᵗ at dt)))))
+
+  make-day-is : makeDayF year month date ≡ sub binary64 counted (num 1)
+  make-day-is = make-day-finite year month date (number a) (number b) (number c) ∙ day-of-month-finite ym (monthOfYear (wholePart month)) (wholePart date) (whole-number carried)
+
+  day-small : natAbs (MakeDay y m dt) ≤ 2 ^ 53
+  day-small = omega (arith, make-day-range y m dt e)
+
+  pub make-day-exact : IsWhole (makeDayF year month date) (MakeDay y m dt)
+  unfolding MakeDay
+  make-day-exact = subst (λ (x : Float). IsWhole x (MakeDay y m dt)) (sym make-day-is) (sub-whole binary64 counted-whole (num-whole 1 (lit≤ tt)) day-small)
+
+  -- and its f64: a number less 1 is never -0
+  pub make-day-int : makeDayF year month date ≡ ofInt binary64 (MakeDay y m dt)
+  unfolding MakeDay sub
+  make-day-int =
+      let one = neg-whole (num-whole 1 (lit≤ tt)) in
+      make-day-is
+      ∙ int-unique (sub-fits binary64 counted (num 1)) (subst (λ (x : Float). IsWhole x (MakeDay y m dt)) make-day-is make-day-exact)
+      (add-plain binary64 counted-whole one day-small (plain-nonzero one (λ z. omega (ints, z)))) day-small
+
+-- a month within its year carries nothing
+pub month-within-exact : (y m dt : ℤ) → natAbs y ≤ 280_000 → pos 0 ≤ℤ m → m ≤ℤ pos 11 → natAbs dt ≤ 1_000_000 → ExactDay y m dt
+month-within-exact y m dt h from upto k =
+    record {
+      year = abs-out (y +ℤ floorDiv m 12) (omega (ints, from, upto, abs-in y h, read (at y +ᵗ at m /ᵗ 12)));
+      month = abs-out m (omega (ints, from, upto));
+      date = k;
+    }
 
 -- ---- MakeDate, wherever the product and the sum are below 2^53
 pub make-date-whole : {day time : Float} {d t : ℤ} → IsWhole day d → IsWhole time t → natAbs (d *ℤ pos 86_400_000) < 2 ^ 53 → natAbs (MakeDate d t) < 2 ^ 53
     → IsWhole (makeDateF day time) (MakeDate d t)
 make-date-whole {day} {time} {d} {t} u v h k =
     let w = add-whole binary64 (mul-whole binary64 u (num-whole 86400000 (lit≤ tt)) (below h)) v (below k) in
-    subst (λ (x : Float). IsWhole x (MakeDate d t)) (sym (make-date-finite day time (whole-number u) (whole-number v) (whole-number w))) w
+    subst (λ (x : Float). IsWhole x (MakeDate d t)) (sym (make-date-finite day time (whole-number w))) w
   where
     below : {n : ℕ} → n < 2 ^ 53 → n ≤ 2 ^ 53
     below l = omega arith
@@ -145,21 +175,9 @@ pub make-date-exact : {day time : Float} {d t : ℤ} → IsWhole day d → IsWho
     → IsWhole (makeDateF day time) (MakeDate d t)
 make-date-exact {day} {time} {d} {t} u v h k = let r = make-date-range d t h k in make-date-whole u v (r .0) (r .1)
 
--- THE COMPOSITION: the time of seven fields
-pub make-fields-exact : {year month date hour min sec ms : Float} {y m dt h mi s milli : ℤ}
-    → IsField year y → IsField month m → IsField date dt → IsField hour h → IsField min mi → IsField sec s → IsField ms milli
-    → ExactDay y m dt → ExactTime h mi s milli
-    → IsWhole (makeDateF (makeDayF year month date) (makeTimeF hour min sec ms)) (MakeDate (MakeDay y m dt) (MakeTime h mi s milli))
-make-fields-exact a b c d e f g day time =
-    make-date-exact (make-day-exact a b c day) (make-time-exact d e f g time) (make-day-range _ _ _ day) (make-time-range _ _ _ _ time)
-
 -- and it leaves room for a local shift of a day
 pub make-date-small : (d t : ℤ) → natAbs d ≤ 103_987_430 → natAbs t ≤ 6_200_000_000_000 → natAbs (MakeDate d t) ≤ 8_999_999_999_999_999
 make-date-small d t h k = abs-out (MakeDate d t) (omega (arith, abs-in d h, abs-in t k, read (at d ᵗ* 86400000 +ᵗ at t)))
-
-pub make-fields-small : (y m dt h mi s milli : ℤ) → ExactDay y m dt → ExactTime h mi s milli
-    → natAbs (MakeDate (MakeDay y m dt) (MakeTime h mi s milli)) ≤ 8_999_999_999_999_999
-make-fields-small y m dt h mi s milli day time = make-date-small (MakeDay y m dt) (MakeTime h mi s milli) (make-day-range y m dt day) (make-time-range h mi s milli time)
 
 -- ---- MakeFullYear, of a finite year of any size
 full-year-whole : {i : Float} (z : ℤ) → IsWhole i z → IsWhole (fullYear i) (MakeFullYear z)

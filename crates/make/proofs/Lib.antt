@@ -1,3 +1,4 @@
+pub mod Finite
 pub mod Tests
 pub mod Parts
 pub mod Exact

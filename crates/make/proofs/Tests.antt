@@ -2,11 +2,12 @@
 use mathlib.Core.Path.{_≡_, refl, sym, ap, _∙_}
 use mathlib.Core.Bool.{Bool, true, false, not, cond, _&&_}
 use Prim.Native.Nat.{ℕ}
-use lib.Ieee.{Float, nan, binary64, add, sub, mul, div, lt, le, isNan}
+use lib.Ieee.{Float, nan, binary64, add, sub, mul, lt, le, isNan}
 use lib.Ieee.Scale.{finite}
 use borrow.Author.Tests.{not-true, not-false}
 use Rattle.float.specs.Rounding.{truncF, absF, toIntegerOrInfinity}
 use Rattle.calendar.specs.Calendar.{num, dayF}
+use Rattle.make.proofs.Finite.{summand-left, summand-right, factor, uncut}
 use Rattle.make.specs.Make.{wholePart, joinTime, makeTimeF, yearOfMonth, monthOfYear, monthStartF, dayOfMonthF, makeDayF, ifFinite, makeDateF, fullYear, makeFullYearF, plainZero, timeClipF}
 
 and-false : (a : Bool) {b : Bool} → b ≡ false → (a && b) ≡ false
@@ -45,6 +46,15 @@ module _ (h m s ms : Float) where
       → makeTimeF h m s ms ≡ joinTime (wholePart h) (wholePart m) (wholePart s) (wholePart ms)
   unfolding makeTimeF
   make-time-finite a b d e = λ i. joined (a i && b i && d i && e i)
+
+  -- a finite sum has only finite terms
+  pub make-time-sum : finite (joinTime (wholePart h) (wholePart m) (wholePart s) (wholePart ms)) ≡ true
+      → makeTimeF h m s ms ≡ joinTime (wholePart h) (wholePart m) (wholePart s) (wholePart ms)
+  make-time-sum e =
+      let seconds = summand-left binary64 _ _ e in
+      let minutes = summand-left binary64 _ _ seconds in
+      make-time-finite (uncut h (factor binary64 _ _ (summand-left binary64 _ _ minutes))) (uncut m (factor binary64 _ _ (summand-right binary64 _ _ minutes)))
+      (uncut s (factor binary64 _ _ (summand-right binary64 _ _ seconds))) (uncut ms (summand-right binary64 _ _ e))
 
 -- ---- MakeDay
 module _ (y m d : Float) where
@@ -90,14 +100,22 @@ module _ (d t : Float) where
   unfolding makeDateF
   time-not-finite e = ap (λ b. cond b (ifFinite sum) nan) (and-false (finite d) e)
 
-  pub sum-not-finite : finite d ≡ true → finite t ≡ true → finite (add binary64 (mul binary64 d (num 86_400_000)) t) ≡ false → makeDateF d t ≡ nan
+  -- whatever the day and the time are
+  pub sum-not-finite : finite (add binary64 (mul binary64 d (num 86_400_000)) t) ≡ false → makeDateF d t ≡ nan
   unfolding makeDateF
-  sum-not-finite a b e = λ i. cond (a i && b i) (cond (e i) sum nan) nan
+  sum-not-finite e = go (finite d && finite t)
+    where
+      go : (b : Bool) → cond b (ifFinite sum) nan ≡ nan
+      go true = ap (λ c. cond c sum nan) e
+      go false = refl
 
-  pub make-date-finite : finite d ≡ true → finite t ≡ true → finite (add binary64 (mul binary64 d (num 86_400_000)) t) ≡ true
-      → makeDateF d t ≡ add binary64 (mul binary64 d (num 86_400_000)) t
+  -- a finite sum has only finite terms
+  pub make-date-finite : finite (add binary64 (mul binary64 d (num 86_400_000)) t) ≡ true → makeDateF d t ≡ add binary64 (mul binary64 d (num 86_400_000)) t
   unfolding makeDateF
-  make-date-finite a b e = λ i. cond (a i && b i) (cond (e i) sum nan) nan
+  make-date-finite e =
+      let a : finite d ≡ true = factor binary64 d (num 86400000) (summand-left binary64 (mul binary64 d (num 86400000)) t e) in
+      let b : finite t ≡ true = summand-right binary64 (mul binary64 d (num 86400000)) t e in
+      λ i. cond (a i && b i) (cond (e i) sum nan) nan
 
 -- ---- MakeFullYear
 pub full-year-nan : (y : Float) → isNan y ≡ true → makeFullYearF y ≡ nan

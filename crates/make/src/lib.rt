@@ -1,8 +1,10 @@
 // The makers of builtins/date/utils.rs on f64, function by function under its names. Each contract is the original's operations in its
 // order (specs/Make.antt), for every f64; that they are ECMA-262's makers in the exact domain is in proofs/Exact.antt.
 ghost use mathlib.Core.Path.{_≡_};
+ghost use mathlib.Core.Bool.{_&&_};
 ghost use Prim.Native.Nat.{_<_};
-ghost use Rattle.make.specs.Make.{wholePart, makeTimeF, yearOfMonth, monthOfYear, monthStartF, makeDayF, makeDateF, makeFullYearF, timeClipF};
+ghost use lib.Ieee.{le};
+ghost use Rattle.make.specs.Make.{wholePart, makeTimeF, yearOfMonth, monthOfYear, monthStartF, dayOfMonthF, makeDayF, makeDateF, makeFullYearF, timeClipF};
 
 const MS_PER_SECOND: f64 = 1_000.0;
 
@@ -12,17 +14,31 @@ const MS_PER_HOUR: f64 = 3_600_000.0;
 
 const MS_PER_DAY: f64 = 86_400_000.0;
 
-// 𝔽(! ToIntegerOrInfinity(x)), as the makers work it out; of a negative fraction it is -0. The original's three steps are one `trunc`.
+// 𝔽(! ToIntegerOrInfinity(x)), as the makers work it out, by the original's three steps; of a negative fraction it is -0. A whole number, as
+// nearly always, is its own whole part.
 fn whole_part(x: f64) -> f64
     ensures { λ r. ⌜ r ≡ wholePart x ⌝ }
 {
-    float::trunc(x)
+    if float::is_whole_within(x, 9_007_199_254_740_992.0) {
+        return x;
+    }
+    float::copysign(float::floor(float::abs(x)), x)
 }
 
 // MakeTime(hour, min, sec, ms)
 pub fn make_time(hour: f64, min: f64, sec: f64, ms: f64) -> f64
     ensures { λ r. ⌜ r ≡ makeTimeF hour min sec ms ⌝ }
 {
+    // 2. to 5. Let h, m, s and milli be 𝔽(! ToIntegerOrInfinity(..)).
+    let h = whole_part(hour);
+    let m = whole_part(min);
+    let s = whole_part(sec);
+    let milli = whole_part(ms);
+    // 6. Return ((h × msPerHour + m × msPerMinute) + s × msPerSecond) + milli. A finite sum has only finite terms, so step 1 is left for any other.
+    let sum = ((h * MS_PER_HOUR + m * MS_PER_MINUTE) + s * MS_PER_SECOND) + milli;
+    if float::is_finite(sum) {
+        return sum;
+    }
     // 1. If hour is not finite, min is not finite, sec is not finite, or ms is not finite, return NaN.
     if !float::is_finite(hour)
         || !float::is_finite(min)
@@ -31,13 +47,7 @@ pub fn make_time(hour: f64, min: f64, sec: f64, ms: f64) -> f64
     {
         return 0.0 / 0.0;
     }
-    // 2. to 5. Let h, m, s and milli be 𝔽(! ToIntegerOrInfinity(..)).
-    let h = whole_part(hour);
-    let m = whole_part(min);
-    let s = whole_part(sec);
-    let milli = whole_part(ms);
-    // 6. Return ((h × msPerHour + m × msPerMinute) + s × msPerSecond) + milli.
-    ((h * MS_PER_HOUR + m * MS_PER_MINUTE) + s * MS_PER_SECOND) + milli
+    sum
 }
 
 // y + 𝔽(floor(ℝ(m) / 12))
@@ -65,18 +75,11 @@ fn month_start(ym: f64, mn: u8) -> f64
     (calendar::day_from_year(ym + rest) - 365.0 * rest + days) * MS_PER_DAY
 }
 
-// MakeDay(year, month, date)
-pub fn make_day(year: f64, month: f64, date: f64) -> f64
-    ensures { λ r. ⌜ r ≡ makeDayF year month date ⌝ }
+// Steps 5 to 9 of MakeDay, of the whole parts y, m and dt.
+fn day_of_month(y: f64, m: f64, dt: f64) -> f64
+    requires { ⌜ monthOfYear m < 12 ⌝ }
+    ensures { λ r. ⌜ r ≡ dayOfMonthF (yearOfMonth y m) (monthOfYear m) dt ⌝ }
 {
-    // 1. If year is not finite, month is not finite, or date is not finite, return NaN.
-    if !float::is_finite(year) || !float::is_finite(month) || !float::is_finite(date) {
-        return 0.0 / 0.0;
-    }
-    // 2. to 4. Let y, m and dt be 𝔽(! ToIntegerOrInfinity(..)).
-    let y = whole_part(year);
-    let m = whole_part(month);
-    let dt = whole_part(date);
     // 5. Let ym be y + 𝔽(floor(ℝ(m) / 12)).
     let ym = year_of_month(y, m);
     // 6. If ym is not finite, return NaN.
@@ -91,17 +94,47 @@ pub fn make_day(year: f64, month: f64, date: f64) -> f64
     calendar::day(t) + dt - 1.0
 }
 
+// Whether x lies from `least` to `most`; a NaN does not.
+fn is_within(x: f64, least: f64, most: f64) -> bool
+    ensures { λ r. ⌜ r ≡ (le least x && le x most) ⌝ }
+{
+    if least <= x {
+        return x <= most;
+    }
+    false
+}
+
+// MakeDay(year, month, date)
+pub fn make_day(year: f64, month: f64, date: f64) -> f64
+    ensures { λ r. ⌜ r ≡ makeDayF year month date ⌝ }
+{
+    // 2. to 4. Let y, m and dt be 𝔽(! ToIntegerOrInfinity(..)).
+    let y = whole_part(year);
+    let m = whole_part(month);
+    let dt = whole_part(date);
+    // In the exact domain nothing is rounded, so that the steps may be taken in integers: here with a month within its year. A NaN passes no test.
+    if is_within(y, -280_000.0, 280_000.0)
+        && is_within(m, 0.0, 11.0)
+        && is_within(dt, -1_000_000.0, 1_000_000.0)
+    {
+        let mn = float::exact_i64(m) as u32;
+        return calendar::day_number(float::exact_i64(y), mn, float::exact_i64(dt)) as f64;
+    }
+    // 1. If year is not finite, month is not finite, or date is not finite, return NaN.
+    if !float::is_finite(year) || !float::is_finite(month) || !float::is_finite(date) {
+        return 0.0 / 0.0;
+    }
+    // 5. to 9.
+    day_of_month(y, m, dt)
+}
+
 // MakeDate(day, time)
 pub fn make_date(day: f64, time: f64) -> f64
     ensures { λ r. ⌜ r ≡ makeDateF day time ⌝ }
 {
-    // 1. If day is not finite or time is not finite, return NaN.
-    if !float::is_finite(day) || !float::is_finite(time) {
-        return 0.0 / 0.0;
-    }
     // 2. Let tv be day × msPerDay + time.
     let tv = day * MS_PER_DAY + time;
-    // 3. If tv is not finite, return NaN.
+    // 1. If day is not finite or time is not finite, return NaN. 3. If tv is not finite, return NaN. Of such a day or time tv is not finite.
     if !float::is_finite(tv) {
         return 0.0 / 0.0;
     }

@@ -12,10 +12,10 @@ use lib.ListN.{length, getD}
 use lib.Ieee.{Float, nan, binary64, fits, ofInt, add, le, isNan}
 use lib.Ieee.Bits.{ofBits-fits}
 use lib.Ieee.Fits.{cond-fits, nan-fits, add-fits}
-use Rattle.ecma262.specs.Whole.{floorDiv}
+use Rattle.integers.specs.Whole.{floorDiv}
 use Rattle.ecma262.specs.Date.{Day, TimeWithinDay, YearFromTime, MonthFromTime, DateFromTime, HourFromTime, MinFromTime, SecFromTime, msFromTime, MakeTime, MakeDay, MakeDate}
 use Rattle.ecma262.specs.Domain.{ExactDay, ExactTime, Shown}
-use Rattle.ecma262.proofs.Int.{ints, abs-in, abs-out, mod-small, at, _+ᵗ_, _ᵗ*_, _/ᵗ_, read}
+use Rattle.integers.proofs.Int.{ints, abs-in, abs-out, mod-small, at, _/ᵗ_, read}
 use Rattle.ecma262.proofs.Range.{year-range, make-day-range, make-time-range}
 use Rattle.ecma262.proofs.Fields.{month-range, date-small, date-natural}
 use Rattle.float.specs.Whole.{IsWhole, truncZ}
@@ -25,13 +25,12 @@ use Rattle.calendar.specs.Calendar.{num, dayF, timeWithinDayF}
 use Rattle.calendar.proofs.Whole.{shown-small, day-whole, time-within-day-whole, year-from-time-whole, month-from-time-whole, date-from-time-whole, hour-from-time-whole, min-from-time-whole, sec-from-time-whole, ms-from-time-whole}
 use Rattle.make.specs.Make.{makeTimeF, makeDayF, makeDateF, makeFullYearF, fullYear, IsField, timeValue}
 use Rattle.make.proofs.Parts.{field, field-whole, field-int}
-use Rattle.make.proofs.Exact.{make-time-exact, make-day-exact, make-date-exact, make-full-year-exact}
+use Rattle.make.proofs.Exact.{make-time-exact, make-day-exact, make-date-exact, make-date-small, make-full-year-exact}
 use Rattle.make.proofs.Clip.{clip-exact}
 use Rattle.zone.specs.Zone.{Record, IsZoneList}
 use Rattle.local.proofs.Whole.{utc-whole}
 use Rattle.field_record.specs.FieldRecord.{stands, fieldAt, fieldOr}
 use Rattle.new_date.specs.Calls.{Call, build, setMilliseconds, setSeconds, setMinutes, setHours, setDate, setMonth, setFullYear, bitsOf, yearNow, monthNow, dateNow, hourNow, minuteNow, secondNow, msNow, absent, argument, newDate, valueFrom}
-use Rattle.new_date.specs.Steps.{Dated}
 use Rattle.new_date.specs.Standard.{absentZ, argumentZ, newDateZ, valueFromZ, Finite, Bounded, Exact}
 
 -- ---- the elements of two lists, one by one
@@ -49,48 +48,49 @@ pair-at (x ∷ xs) (z ∷ zs) p (suc i) h = pair-at xs zs (p .1) i (omega arith)
 number : (n k : ℕ) → n ≡ k → k ≤ 9007199254740992 → IsField (num n) (pos k)
 number n k e h = subst (λ (m : ℕ). IsField (num m) (pos k)) (sym e) (field-int (pos k) h)
 
-pub full-year-fits : (y : Float) → T (fits binary64 (makeFullYearF y))
+full-year-fits : (y : Float) → T (fits binary64 (makeFullYearF y))
 unfolding makeFullYearF fullYear
 full-year-fits y =
     let i = toIntegerOrInfinity y in
     cond-fits binary64 (isNan y) nan (fullYear i) (nan-fits binary64)
     (cond-fits binary64 (le (num 0) i && le i (num 99)) (add binary64 (num 1900) i) i (add-fits binary64 (num 1900) i) (integer-fits y))
 
-pub field-at-fits : (fields : List ℕ) (i : ℕ) → T (fits binary64 (fieldAt fields i))
+field-at-fits : (fields : List ℕ) (i : ℕ) → T (fits binary64 (fieldAt fields i))
 unfolding fieldAt
 field-at-fits fields i = ofBits-fits binary64 _
 
 -- ---- the new date: whole, and small enough for the shift out
-date-small-enough : (d v : ℤ) → natAbs d ≤ 103_987_430 → natAbs v ≤ 6_200_000_000_000 → natAbs (MakeDate d v) ≤ 8_999_999_999_999_999
-date-small-enough d v h k = abs-out (MakeDate d v) (omega (arith, abs-in d h, abs-in v k, read (at d ᵗ* 86400000 +ᵗ at v)))
+record Dated (x : Float) (z : ℤ) : Type 0 where
+  pub whole : IsWhole x z
+  pub small : natAbs z ≤ 8_999_999_999_999_999
 
 dated : {day time : Float} {d v : ℤ} → IsWhole day d → IsWhole time v → natAbs d ≤ 103_987_430 → natAbs v ≤ 6_200_000_000_000 → Dated (makeDateF day time) (MakeDate d v)
-dated {d = d} {v = t} u v h k = record { whole = make-date-exact u v h k; small = date-small-enough d t h k }
+dated {d = d} {v = t} u v h k = record { whole = make-date-exact u v h k; small = make-date-small d t h k }
 
 module _ {t : Float} {z : ℤ} (w : IsWhole t z) (h : Shown z) where
   -- ---- the present fields
-  pub year-field : IsField (yearNow t) (YearFromTime z)
+  year-field : IsField (yearNow t) (YearFromTime z)
   year-field = subst (λ (y : ℤ). IsField (ofInt binary64 y) (YearFromTime z)) (sym (year-from-time-whole w h)) (field-int (YearFromTime z) (year-small (YearFromTime z) (year-range z h)))
     where
       year-small : (y : ℤ) → (negsuc 271820 ≤ℤ y) × (y ≤ℤ pos 275760) → natAbs y ≤ 2 ^ 53
       year-small y r = abs-out y (omega (ints, r))
 
-  pub month-field : IsField (monthNow t) (pos (MonthFromTime z))
+  month-field : IsField (monthNow t) (pos (MonthFromTime z))
   month-field = number _ _ (month-from-time-whole w h) (omega (arith, month-range z))
 
-  pub date-field : IsField (dateNow t) (DateFromTime z)
+  date-field : IsField (dateNow t) (DateFromTime z)
   date-field = subst (IsField (dateNow t)) (date-natural z) (number _ _ (date-from-time-whole w h) (omega (arith, date-small z)))
 
-  pub hour-field : IsField (hourNow t) (pos (HourFromTime z))
+  hour-field : IsField (hourNow t) (pos (HourFromTime z))
   hour-field = number _ _ (hour-from-time-whole w h) (omega (arith, mod-small (floorDiv z 3600000) 23))
 
-  pub minute-field : IsField (minuteNow t) (pos (MinFromTime z))
+  minute-field : IsField (minuteNow t) (pos (MinFromTime z))
   minute-field = number _ _ (min-from-time-whole w h) (omega (arith, mod-small (floorDiv z 60000) 59))
 
-  pub second-field : IsField (secondNow t) (pos (SecFromTime z))
+  second-field : IsField (secondNow t) (pos (SecFromTime z))
   second-field = number _ _ (sec-from-time-whole w h) (omega (arith, mod-small (floorDiv z 1000) 59))
 
-  pub ms-field : IsField (msNow t) (pos (msFromTime z))
+  ms-field : IsField (msNow t) (pos (msFromTime z))
   ms-field = number _ _ (ms-from-time-whole w h) (omega (arith, mod-small z 999))
 
   -- ---- the arguments
@@ -124,12 +124,12 @@ module _ {t : Float} {z : ℤ} (w : IsWhole t z) (h : Shown z) where
       go false e = none i k e
 
   -- ---- the new date
-  pub on-clock : {hour min sec ms : Float} {a b c d : ℤ} → IsField hour a → IsField min b → IsField sec c → IsField ms d → ExactTime a b c d
+  on-clock : {hour min sec ms : Float} {a b c d : ℤ} → IsField hour a → IsField min b → IsField sec c → IsField ms d → ExactTime a b c d
       → Dated (makeDateF (dayF t) (makeTimeF hour min sec ms)) (MakeDate (Day z) (MakeTime a b c d))
   on-clock p q r s e =
       dated (day-whole w (shown-small z h)) (make-time-exact p q r s e) (abs-out (Day z) (omega (arith, abs-in z h, read (at z /ᵗ 86400000)))) (make-time-range _ _ _ _ e)
 
-  pub on-day : {year month date : Float} {y m d : ℤ} → IsField year y → IsField month m → IsField date d → ExactDay y m d
+  on-day : {year month date : Float} {y m d : ℤ} → IsField year y → IsField month m → IsField date d → ExactDay y m d
       → Dated (makeDateF (makeDayF year month date) (timeWithinDayF t)) (MakeDate (MakeDay y m d) (pos (TimeWithinDay z)))
   on-day p q r e = dated (make-day-exact p q r e) (time-within-day-whole w) (make-day-range _ _ _ e) (omega (arith, mod-small z 86399999))
 

@@ -1,4 +1,3 @@
-mod Setters
 pub mod Exact
-mod Small
 pub mod Values
+mod Arguments

@@ -1,16 +1,16 @@
 -- What holds of every value, in the exact domain or not: it is a time value; an argument that is not finite makes it NaN. Assumes nothing.
 use mathlib.Core.Path.{_≡_, refl, ap, _∙_}
-use mathlib.Core.Bool.{Bool, true, false, cond, _&&_, true≢false}
+use mathlib.Core.Bool.{Bool, true, false, _&&_, true≢false, false≢true}
 use mathlib.Core.List.{List}
 use Prim.Native.Nat.{ℕ, zero, suc, _<_}
 use native.Mathlib.Omega.{arith}
 use lib.Dec.{T}
 use lib.ListN.{getD}
-use lib.Ieee.{Float, nan, inf, fin, binary64, fits, add, sub, mul, le, ofInt, isNan}
+use lib.Ieee.{Float, nan, inf, fin, binary64, fits, add, sub, mul, div, rem, le, lt, ofInt, isNan}
 use lib.Ieee.Fits.{cond-fits, nan-fits, add-fits, sub-fits}
 use lib.Ieee.Scale.{finite}
-use Rattle.float.specs.Rounding.{toIntegerOrInfinity}
-use Rattle.calendar.specs.Calendar.{num}
+use Rattle.float.specs.Rounding.{floorF, remEuclidF, toIntegerOrInfinity}
+use Rattle.calendar.specs.Calendar.{num, dayF, timeWithinDayF}
 use Rattle.make.specs.Make.{makeTimeF, makeDayF, makeDateF, makeFullYearF, fullYear, ifFinite, timeClipF, IsTimeValue}
 use Rattle.make.proofs.Tests.{hour-not-finite, minute-not-finite, second-not-finite, milli-not-finite, year-not-finite, month-not-finite, date-not-finite, day-not-finite, time-not-finite, clip-not-finite}
 use Rattle.make.proofs.Clip.{clip-time-value}
@@ -130,3 +130,37 @@ unfolding fieldOr
 first-nan call local list t fields s =
     let f = first-absent call t in
     argument-nan call local list t fields 0 (f .0) (rw s (ap finite (f .1)))
+
+-- ---- a NaN date: "Every setter but `set_full_year` gives NaN for NaN". Its day and its time within the day are NaN.
+day-of-nan : finite (dayF nan) ≡ false
+unfolding dayF floorF div ofInt
+day-of-nan = refl
+
+time-of-nan : finite (timeWithinDayF nan) ≡ false
+unfolding timeWithinDayF remEuclidF rem lt
+time-of-nan = refl
+
+-- whether a call gives NaN of a NaN date
+abbrev pub keepsNan : Call → Bool
+keepsNan build = false
+keepsNan setMilliseconds = true
+keepsNan setSeconds = true
+keepsNan setMinutes = true
+keepsNan setHours = true
+keepsNan setDate = true
+keepsNan setMonth = true
+keepsNan setFullYear = false
+
+pub nan-date : (call : Call) (local : Bool) (list : List Record) (fields : List ℕ) → keepsNan call ≡ true → valueFrom call local list nan fields ≡ nan
+unfolding valueFrom newDate
+nan-date call local list fields k = ap (λ (x : Float). timeClipF (shiftOut local list x)) (go call k) ∙ ap timeClipF (out-nan local list) ∙ clip-nan
+  where
+    go : (c : Call) → keepsNan c ≡ true → newDate c nan (argument call nan fields) ≡ nan
+    go build k = absurd (false≢true k)
+    go setMilliseconds k = day-not-finite _ _ day-of-nan
+    go setSeconds k = day-not-finite _ _ day-of-nan
+    go setMinutes k = day-not-finite _ _ day-of-nan
+    go setHours k = day-not-finite _ _ day-of-nan
+    go setDate k = time-not-finite _ _ time-of-nan
+    go setMonth k = time-not-finite _ _ time-of-nan
+    go setFullYear k = absurd (false≢true k)

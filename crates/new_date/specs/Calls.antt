@@ -78,6 +78,10 @@ newDate setDate t a = makeDateF (makeDayF (yearNow t) (monthNow t) (a 0)) (timeW
 newDate setMonth t a = makeDateF (makeDayF (yearNow t) (a 0) (a 1)) (timeWithinDayF t)
 newDate setFullYear t a = makeDateF (makeDayF (a 0) (a 1) (a 2)) (timeWithinDayF t)
 
+-- of a call with these fields
+abbrev pub newDateOf : Call → Float → List ℕ → Float
+newDateOf call t fields = newDate call t (argument call t fields)
+
 -- ---- the value. `const LOCAL` is an argument: a local call shifts the date on the way in and the new one on the way out, by the zone list.
 
 abbrev pub shiftIn : Bool → List Record → Float → Float
@@ -86,6 +90,10 @@ shiftIn local list t = cond local (localTimeF list t) t
 abbrev pub shiftOut : Bool → List Record → Float → Float
 shiftOut local list t = cond local (utcF list t) t
 
--- time_clip(utc_t(new_date)), or time_clip(new_date), from the time t, which is already shifted
+-- time_clip(utc_t(new_date)), or time_clip(new_date)
+abbrev pub valueOut : Bool → List Record → Float → Float
+valueOut local list x = timeClipF (shiftOut local list x)
+
+-- the value, from the time t, which is already shifted
 unfoldable pub valueFrom : Call → Bool → List Record → Float → List ℕ → Float
-valueFrom call local list t fields = timeClipF (shiftOut local list (newDate call t (argument call t fields)))
+valueFrom call local list t fields = valueOut local list (newDateOf call t fields)

@@ -1,14 +1,18 @@
--- The reader's answer by cases: no accepted list, a fault of the text, an instant. Assumes nothing.
+-- The reader's answer by cases: no accepted list, a fault of the text, an instant in the range or outside it. Assumes nothing.
 use mathlib.Core.Path.{_≡_, sym, ap, ap₂}
 use mathlib.Core.Bool.{Bool, true, false, cond}
 use mathlib.Core.List.{List}
-use Prim.Native.Nat.{ℕ}
+use Prim.Native.Nat.{ℕ, _≤_, _<_}
+use lib.IntN.{ℤ, natAbs}
+use borrow.Author.Tests.{le-leb, lt-leb}
+use Rattle.ecma262.specs.Date.{timeRange}
 use Rattle.ecma262.specs.Format.{Form}
 use Rattle.zone.specs.Zone.{accepts, records}
 use Rattle.parser.specs.Reading.{Reading, form, refused, read}
 use Rattle.parser.specs.declared.Fault.{Fault}
-use Rattle.answer.specs.declared.Refusal.the-variants.{ZoneList}
-use Rattle.answer.specs.declared.Reply.the-variants.{Refused}
+use Rattle.answer.specs.Answer.{timeBits}
+use Rattle.answer.specs.declared.Refusal.the-variants.{ZoneList, Instant}
+use Rattle.answer.specs.declared.Reply.the-variants.{Time, Refused}
 use Rattle.reader.specs.Denotes.{instantOf}
 use Rattle.reader.specs.Outcome.{refusalOf, answerAt, answerOf, readOutcome}
 
@@ -26,3 +30,12 @@ module _ (zone text : List ℕ) where
 
   pub text-read : (f : Form) → accepts zone ≡ true → read text ≡ form f → answerAt (instantOf (records zone) f) ≡ readOutcome zone text
   text-read f = by-reading (form f)
+
+module _ (t : ℤ) where
+  pub answer-beyond : timeRange < natAbs t → Refused Instant ≡ answerAt t
+  unfolding answerAt
+  answer-beyond h = ap (λ (b : Bool). cond b (Time (timeBits t)) (Refused Instant)) (sym (lt-leb (natAbs t) timeRange h))
+
+  pub answer-inside : natAbs t ≤ timeRange → Time (timeBits t) ≡ answerAt t
+  unfolding answerAt
+  answer-inside h = ap (λ (b : Bool). cond b (Time (timeBits t)) (Refused Instant)) (sym (le-leb (natAbs t) timeRange h))

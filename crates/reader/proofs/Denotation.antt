@@ -1,7 +1,7 @@
 -- The reader answers the instant that a text denotes: for every accepted list and every text the answer is 0 with the instant t exactly when
 -- the text denotes t and t is in the range, and 9 exactly when it denotes an instant outside the range. Assumes nothing.
 use mathlib.Core.Path.{_≡_, refl, sym, ap, _∙_, subst}
-use mathlib.Core.Bool.{Bool, true, false, cond}
+use mathlib.Core.Bool.{Bool, true, false}
 use mathlib.Core.List.{List}
 use mathlib.Core.Logic.{_↔_}
 use Prim.Native.Nat.{ℕ, _<_}
@@ -12,7 +12,7 @@ use lib.Ieee.{Float, binary64, ofInt, ofBits}
 use lib.Ieee.Bits.{ofBits-toBits}
 use lib.Ieee.Fits.{ofInt-fits}
 use Rattle.ecma262.specs.Date.{timeRange, InRange}
-use Rattle.ecma262.proofs.Int.{by-test}
+use Rattle.integers.proofs.Int.{by-test}
 use Rattle.float.specs.Whole.{IsWhole}
 use Rattle.float.proofs.Whole.{ofInt-whole}
 use Rattle.float.proofs.Rounding.{number-unique}
@@ -27,8 +27,7 @@ use Rattle.answer.specs.declared.Refusal.the-variants.{ZoneList, Instant}
 use Rattle.answer.specs.declared.Reply.the-variants.{Time, Refused}
 use Rattle.reader.specs.Denotes.{instantOf, Denotes, AcceptedText}
 use Rattle.reader.specs.Outcome.{refusalOf, answerAt, readOutcome}
-use Rattle.reader.proofs.Answers.{list-refused, text-refused, text-read}
-use Rattle.reader.proofs.Counting.{answer-inside, answer-beyond}
+use Rattle.reader.proofs.Answers.{list-refused, text-refused, text-read, answer-inside, answer-beyond}
 
 -- ---- a time of the range is told by its bits
 pub bits-unique : (t u : ℤ) → InRange t → InRange u → timeBits t ≡ timeBits u → t ≡ u

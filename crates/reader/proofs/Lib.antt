@@ -1,3 +1,3 @@
-mod Counting
+mod Sums
 pub mod Answers
 pub mod Denotation

@@ -1,6 +1,6 @@
 -- The reader's answer for any zone list and any text: the refusal table's rows 1, 5 to 8, 7 and 9 in order, else the instant. Definitions
 -- only. Assumes nothing.
-use mathlib.Core.Bool.{false, cond}
+use mathlib.Core.Bool.{cond}
 use mathlib.Core.List.{List}
 use Prim.Native.Nat.{ℕ}
 use lib.Dec.{leb}

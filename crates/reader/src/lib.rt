@@ -1,18 +1,16 @@
 // `finish` and `finish_local` of date/utils.rs: from the form of a text to its instant, and the reader's answer.
 //
-// The original makes the instant in f64. Here it is made in unsigned integers and becomes an f64 at the end: the fields of a text are
-// whole numbers, and integers are exact for all years to ±999,999, where f64 sums would round. Years are counted from 1,199,999 back, so
-// days from 439,010,162 and milliseconds from 37,930,477,996,800,000 back: then no number is negative.
+// The original makes the instant in f64. Here it is made in whole numbers and becomes an f64 at the end: the fields of a text are whole, and
+// its years go to ±999,999, where f64 sums would round. The day is calendar's, and the second of a local time local's.
 ghost use mathlib.Core.Path.{_≡_};
 ghost use Prim.Native.Nat.{_+_, _*_, _≤_, _<_};
-ghost use lib.IntN.{pos, natAbs, _+ℤ_, _-ℤ_};
-ghost use Rattle.ecma262.specs.Date.{MakeDay};
+ghost use lib.IntN.{pos, natAbs, _-ℤ_};
+ghost use Rattle.ecma262.specs.Date.{MakeDay, MakeDate};
 ghost use mathlib.Core.List.{[]};
-ghost use Rattle.ecma262.specs.Format.Year.{six};
 ghost use Rattle.ecma262.specs.Format.Offset.{offset};
 ghost use Rattle.ecma262.specs.Format.{yearNumber, dateMonth, dateDay, timeHour, timeMinute, timeSecond, timeMs, YearBounds, DateBounds, TimeBounds, ZoneBounds, Bounds, zoneOffset};
 ghost use Rattle.zone.specs.Zone.{Accepted, records};
-ghost use Rattle.local.specs.Local.{askedSecond, utcTime};
+ghost use Rattle.local.specs.Local.{utcTime};
 ghost use Rattle.parser.specs.Answer.{asYear, asDate, asTime, asZone, asForm};
 ghost use Rattle.reader.specs.Denotes.{lessOffset, instantOf};
 ghost use Rattle.reader.specs.Outcome.{refusalOf, answerAt, readOutcome};
@@ -26,25 +24,20 @@ use parser::Time;
 use parser::Year;
 use parser::Zone;
 
-// A year of that sign and number, as counted here.
-fn signed_year(negative: bool, year: u32) -> u32
-    requires { ⌜ year ≤ 999_999 ⌝ }
-    ensures { λ r. ⌜ (pos (r + 1) ≡ yearNumber (six negative year) +ℤ pos (400 * 3_000)) × (100_000 ≤ r) × (r ≤ 2_200_000) ⌝ }
-{
-    if negative {
-        1_199_999 - year
-    } else {
-        1_199_999 + year
-    }
-}
-
-fn year_count(y: Year) -> u32
+// The year as written, with its sign.
+fn year_number(y: Year) -> i64
     requires { ⌜ YearBounds (asYear y) ⌝ }
-    ensures { λ r. ⌜ (pos (r + 1) ≡ yearNumber (asYear y) +ℤ pos (400 * 3_000)) × (100_000 ≤ r) × (r ≤ 2_200_000) ⌝ }
+    ensures { λ r. ⌜ (r ≡ yearNumber (asYear y)) × (natAbs r ≤ 1_000_000) ⌝ }
 {
     match y {
-        Year::Four(v) => signed_year(false, v),
-        Year::Six { negative, year } => signed_year(negative, year),
+        Year::Four(year) => year as i64,
+        Year::Six { negative, year } => {
+            if negative {
+                0 - year as i64
+            } else {
+                year as i64
+            }
+        }
     }
 }
 
@@ -60,26 +53,24 @@ fn month_of(d: Date) -> u32
     }
 }
 
-// The days of the month before its day, an absent one being the first.
-fn days_of(d: Date) -> u32
+// Its day as written, an absent one being the first.
+fn date_of(d: Date) -> u32
     requires { ⌜ DateBounds (asDate d) ⌝ }
-    ensures { λ r. ⌜ (r + 1 ≡ dateDay (asDate d)) × (r < 31) ⌝ }
+    ensures { λ r. ⌜ (r ≡ dateDay (asDate d)) × (r ≤ 31) ⌝ }
 {
     match d {
-        Date::ToYear => 0,
-        Date::ToMonth(_) => 0,
-        Date::ToDay { month: _, day } => day - 1,
+        Date::ToYear => 1,
+        Date::ToMonth(_) => 1,
+        Date::ToDay { month: _, day } => day,
     }
 }
 
 // MakeDay of the fields.
-fn day_count(y: Year, d: Date) -> u32
+fn day_of(y: Year, d: Date) -> i64
     requires { ⌜ YearBounds (asYear y) × DateBounds (asDate d) ⌝ }
-    ensures { λ r. ⌜ (pos r ≡ MakeDay (yearNumber (asYear y)) (pos (dateMonth (asDate d)) -ℤ pos 1) (pos (dateDay (asDate d))) +ℤ pos 439_010_162) × (1_000 ≤ r) × (r < 1_000_000_000) ⌝ }
+    ensures { λ r. ⌜ (r ≡ MakeDay (yearNumber (asYear y)) (pos (dateMonth (asDate d)) -ℤ pos 1) (pos (dateDay (asDate d)))) × (natAbs r ≤ 402_000_000) ⌝ }
 {
-    let z = year_count(y);
-    let month = month_of(d);
-    parts::first_day(z) + calendar::days_before(parts::leap(z + 1), month) + days_of(d)
+    calendar::day_number(year_number(y), month_of(d), date_of(d) as i64)
 }
 
 // MakeTime of the fields.
@@ -110,84 +101,72 @@ fn clock_count(t: Time) -> u32
     }
 }
 
-// The time u of the fields, less an offset of that sign, hour and minute: `+01:00` is ahead, so its instant is earlier.
-fn less_offset(u: u64, negative: bool, hour: u32, minute: u32) -> u64
-    requires { ⌜ (1_000_000_000 ≤ u) × (u < 100_000_000_000_000_000) × (hour ≤ 23) × (minute ≤ 59) ⌝ }
-    ensures { λ r. ⌜ (pos r ≡ lessOffset [] (offset negative hour minute) (pos u)) × (r < 200_000_000_000_000_000) ⌝ }
+// MakeDate of the day and the time.
+fn fields_time(y: Year, d: Date, time: u32) -> i64
+    requires { ⌜ YearBounds (asYear y) × DateBounds (asDate d) × (time < 100_000_000) ⌝ }
+    ensures { λ r. ⌜ (r ≡ MakeDate (MakeDay (yearNumber (asYear y)) (pos (dateMonth (asDate d)) -ℤ pos 1) (pos (dateDay (asDate d)))) (pos time)) × (natAbs r ≤ 37_000_000_000_000_000) ⌝ }
 {
-    let ms = clock(hour, minute, 0, 0) as u64;
-    if negative { u + ms } else { u - ms }
+    day_of(y, d) * 86_400_000 + time as i64
 }
 
-// The second of a time, as counted here: the second at which a local time is looked up.
-fn second_of(u: u64) -> i64
-    requires { ⌜ u < 100_000_000_000_000_000 ⌝ }
-    ensures { λ r. ⌜ r ≡ askedSecond (pos u -ℤ pos 37_930_477_996_800_000) ⌝ }
+// The time t of the fields, less an offset of that sign, hour and minute: `+01:00` is ahead, so its instant is earlier.
+fn less_offset(t: i64, negative: bool, hour: u32, minute: u32) -> i64
+    requires { ⌜ (natAbs t ≤ 37_000_000_000_000_000) × (hour ≤ 23) × (minute ≤ 59) ⌝ }
+    ensures { λ r. ⌜ r ≡ lessOffset [] (offset negative hour minute) t ⌝ }
 {
-    (u / 1_000) as i64 - 37_930_477_996_800
+    let ms = clock(hour, minute, 0, 0) as i64;
+    if negative { t + ms } else { t - ms }
 }
 
-// An offset and a day, which is not negative.
-fn above_a_day(offset: i32) -> u64
-    requires { ⌜ natAbs offset ≤ 86_399 ⌝ }
-    ensures { λ r. ⌜ (pos r ≡ offset +ℤ pos 86_400) × (r < 200_000) ⌝ }
+// The time t of the fields, less the offset that the list gives at it, read as an instant: `utc_t`.
+fn less_local(zone: &[u8], t: i64) -> i64
+    requires { ⌜ Accepted (now zone) × (natAbs t ≤ 37_000_000_000_000_000) ⌝ }
+    ensures { λ r. ⌜ r ≡ utcTime (records (now (zone .entry))) t ⌝ }
 {
-    (offset as i64 + 86_400) as u64
+    t - zone::lookup(zone, local::second_of(t)) as i64 * 1_000
 }
 
-// The time u of the fields, less the offset that the list gives at it, read as an instant: `utc_t`.
-fn less_local(zone: &[u8], u: u64) -> u64
-    requires { ⌜ Accepted (now zone) × ((1_000_000_000 ≤ u) × (u < 100_000_000_000_000_000)) ⌝ }
-    ensures { λ r. ⌜ (pos r ≡ utcTime (records (now (zone .entry))) (pos u -ℤ pos 37_930_477_996_800_000) +ℤ pos 37_930_477_996_800_000) × (r < 200_000_000_000_000_000) ⌝ }
-{
-    let seconds = above_a_day(zone::lookup(zone, second_of(u)));
-    u + 86_400_000 - 1_000 * seconds
-}
-
-// The time u of the fields, less the offset of a zone as it is written.
-fn less_zone(zone: &[u8], u: u64, z: Zone) -> u64
-    requires { ⌜ Accepted (now zone) × ((1_000_000_000 ≤ u) × (u < 100_000_000_000_000_000)) × ZoneBounds (asZone z) ⌝ }
-    ensures { λ r. ⌜ (pos r ≡ lessOffset (records (now (zone .entry))) (zoneOffset (asZone z)) (pos u -ℤ pos 37_930_477_996_800_000) +ℤ pos 37_930_477_996_800_000) × (r < 200_000_000_000_000_000) ⌝ }
+// The time t of the fields, less the offset of a zone as it is written.
+fn less_zone(zone: &[u8], t: i64, z: Zone) -> i64
+    requires { ⌜ Accepted (now zone) × (natAbs t ≤ 37_000_000_000_000_000) × ZoneBounds (asZone z) ⌝ }
+    ensures { λ r. ⌜ r ≡ lessOffset (records (now (zone .entry))) (zoneOffset (asZone z)) t ⌝ }
 {
     match z {
-        Zone::Absent => less_local(zone, u),
-        Zone::Zulu => u,
-        Zone::ToHour { negative, hour } => less_offset(u, negative, hour, 0),
+        Zone::Absent => less_local(zone, t),
+        Zone::Zulu => t,
+        Zone::ToHour { negative, hour } => less_offset(t, negative, hour, 0),
         Zone::ToMinute {
             negative,
             hour,
             minute,
-        } => less_offset(u, negative, hour, minute),
+        } => less_offset(t, negative, hour, minute),
     }
 }
 
 // The instant of a form.
-fn instant_of(zone: &[u8], form: Form) -> u64
+fn instant_of(zone: &[u8], form: Form) -> i64
     requires { ⌜ Accepted (now zone) × Bounds (asForm form) ⌝ }
-    ensures { λ r. ⌜ (pos r ≡ instantOf (records (now (zone .entry))) (asForm form) +ℤ pos 37_930_477_996_800_000) × (r < 200_000_000_000_000_000) ⌝ }
+    ensures { λ r. ⌜ r ≡ instantOf (records (now (zone .entry))) (asForm form) ⌝ }
 {
     match form {
-        Form::Date(y, d) => 86_400_000 * (day_count(y, d) as u64),
+        Form::Date(y, d) => fields_time(y, d, 0),
         Form::Timed(y, d, t, z) => {
-            let day = day_count(y, d) as u64;
-            let time = clock_count(t) as u64;
-            less_zone(zone, 86_400_000 * day + time, z)
+            let time = clock_count(t);
+            less_zone(zone, fields_time(y, d, time), z)
         }
     }
 }
 
-// The answer for an instant, as counted here: the range is 8,640,000,000,000,000 either way.
-fn answer_at(u: u64) -> Reply
-    requires { ⌜ u < 200_000_000_000_000_000 ⌝ }
-    ensures { λ r. ⌜ r ≡ answerAt (pos u -ℤ pos 37_930_477_996_800_000) ⌝ }
+// The answer for an instant: the range is 8,640,000,000,000,000 either way.
+fn answer_at(t: i64) -> Reply
+    ensures { λ r. ⌜ r ≡ answerAt t ⌝ }
 {
-    if u < 29_290_477_996_800_000 {
+    if t < -8_640_000_000_000_000 {
         return Reply::Refused(Refusal::Instant);
     }
-    if 46_570_477_996_800_000 < u {
+    if 8_640_000_000_000_000 < t {
         return Reply::Refused(Refusal::Instant);
     }
-    let t = u as i64 - 37_930_477_996_800_000;
     Reply::Time(float::bits_of(t as f64))
 }
 

@@ -13,7 +13,7 @@ use Rattle.ecma262.specs.Format.Date.{toDay}
 use Rattle.ecma262.specs.Format.Time.{toDecimals}
 use Rattle.ecma262.specs.Format.Zone.{zulu}
 use Rattle.ecma262.specs.Format.Form.{timed}
-use Rattle.ecma262.proofs.Int.{ints, at, _-ᵗ_, read}
+use Rattle.integers.proofs.Int.{ints, at, _-ᵗ_, read}
 use Rattle.ecma262.proofs.Written.{month-days}
 use Rattle.reader.specs.Denotes.{fieldsTime, instantOf, Denotes}
 

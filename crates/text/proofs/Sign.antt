@@ -9,8 +9,8 @@ use mir.Syntax.{w32}
 use mir.Val.{SFits, toZ, ofZ}
 use mir.Facts.{toZ-ofZ}
 use Rattle.ecma262.specs.Texts.{timeZoneString}
-use Rattle.ecma262.proofs.Int.{abs-in}
-use Rattle.ecma262.proofs.Machine.{fits32}
+use Rattle.integers.proofs.Int.{abs-in}
+use Rattle.integers.proofs.Machine.{fits32}
 use Rattle.text.specs.Output.{Puts}
 
 pub at-fitting : (P : ℤ → Type 0) {x : ℤ} → SFits w32 x → P (toZ w32 (ofZ w32 x)) → P x

@@ -1,12 +1,12 @@
 -- The time values of document 01: "The range is |t| ≤ 8,640,000,000,000,000; a time value is NaN or a whole number in the range (-0 counts as
 -- 0)." That `isTime` is `IsTime`, both ways, is a law (proofs/Laws.antt). Definitions only. Assumes nothing.
-use mathlib.Core.Bool.{Bool, cond, _&&_}
+use mathlib.Core.Bool.{Bool, cond}
 use Prim.Native.Nat.{ℕ}
 use lib.IntN.{pos}
-use lib.Ieee.{Float, binary64, ofBits, ofInt, eq, le, isNan}
+use lib.Ieee.{Float, binary64, ofBits, ofInt, eq, isNan}
 use Rattle.ecma262.specs.Date.{timeRange, InRange}
 use Rattle.float.specs.Whole.{IsWhole, truncZ}
-use Rattle.float.specs.Rounding.{truncF, absF}
+use Rattle.float.specs.Rounding.{isWholeWithin}
 use Rattle.timevalue.specs.declared.TimeValue.{TimeValue}
 use Rattle.timevalue.specs.declared.TimeValue.the-variants.{Time, Nan, Refused}
 
@@ -15,9 +15,9 @@ pub record IsTime (x : Float) : Type 0 where
   pub whole : IsWhole x (truncZ x)
   pub range : InRange (truncZ x)
 
--- The same as a test: x is its own whole part, and no larger than the range. An infinity is larger; a NaN equals nothing.
+-- The same as a test.
 unfoldable pub isTime : Float → Bool
-isTime x = eq (truncF x) x && le (absF x) (ofInt binary64 (pos timeRange))
+isTime x = isWholeWithin (ofInt binary64 (pos timeRange)) x
 
 -- x, but +0 for either zero
 abbrev pub unsigned : Float → Float

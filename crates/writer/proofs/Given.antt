@@ -7,7 +7,6 @@ use native.Mathlib.Omega.{arith}
 use lib.IntN.{natAbs}
 use lib.Ieee.{Float}
 use Rattle.float.specs.Whole.{truncZ}
-use Rattle.parts.specs.Parts.{Takes}
 use Rattle.timevalue.specs.declared.TimeValue.{TimeValue as Given}
 use Rattle.timevalue.specs.declared.TimeValue.the-variants.{Time}
 use Rattle.timevalue.specs.TimeValue.{IsTime, timeValueOf}
@@ -17,12 +16,13 @@ use Rattle.answer.specs.declared.Refusal.{Refusal}
 use Rattle.answer.specs.declared.Refusal.the-variants.{ZoneList}
 use Rattle.answer.specs.declared.Reply.{Reply}
 use Rattle.answer.specs.declared.Reply.the-variants.{Refused}
+use Rattle.writer.specs.Fields.{IsShown}
 use Rattle.writer.specs.Outcome.{Outcome, refused, Leaves}
 use Rattle.writer.specs.Writer.{isoCase, isoOutcome, utcCase, utcOutcome, localCase, localOutcome}
 
--- a time of the range can be taken apart
-pub is-time-takes : {t : Float} → IsTime t → Takes t
-is-time-takes {t} h = record { whole = h .whole; shown = wider (natAbs (truncZ t)) (h .range) }
+-- a time of the range can be shown
+pub is-time-shown : {t : Float} → IsTime t → IsShown t
+is-time-shown {t} h = record { whole = h .whole; shown = wider (natAbs (truncZ t)) (h .range) }
   where
     wider : (n : ℕ) → n ≤ 8_640_000_000_000_000 → n ≤ 8_640_000_086_399_000
     wider n h = omega arith
@@ -46,8 +46,8 @@ module _ (time : ℕ) (out : List ℕ) {v g : Given} (judged : v ≡ timeValueOf
 pub time-is : (time : ℕ) {v : Given} {t : Float} → v ≡ timeValueOf time → v ≡ Time t → IsTime t
 time-is time {t = t} judged is = time-taken time t (sym judged ∙ is) .time
 
-pub time-takes : (time : ℕ) {v : Given} {t : Float} → v ≡ timeValueOf time → v ≡ Time t → Takes t
-time-takes time judged is = is-time-takes (time-is time judged is)
+pub time-shown : (time : ℕ) {v : Given} {t : Float} → v ≡ timeValueOf time → v ≡ Time t → IsShown t
+time-shown time judged is = is-time-shown (time-is time judged is)
 
 -- ---- the local writer: the list first
 pub list-refused : (zone : List ℕ) (time : ℕ) (out : List ℕ) → accepts zone ≡ false → Leaves (localOutcome zone time out) (Refused ZoneList) out

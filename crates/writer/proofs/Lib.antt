@@ -1,4 +1,3 @@
-pub mod Whole
 pub mod Written
 pub mod Given
 pub mod Local

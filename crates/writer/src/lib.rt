@@ -9,28 +9,28 @@ ghost use lib.Ieee.{binary64, toBits};
 ghost use Rattle.ecma262.specs.Texts.{isoText, utcText, invalidDate};
 ghost use Rattle.float.specs.Whole.{truncZ};
 ghost use Rattle.answer.specs.Answer.{nanBits};
-ghost use Rattle.parts.specs.Parts.{Takes};
-ghost use Rattle.writer.specs.Fields.{FieldsAt, replied};
+ghost use Rattle.writer.specs.Fields.{IsShown, FieldsAt, replied};
 ghost use Rattle.writer.specs.Outcome.{written, Leaves};
 ghost use Rattle.timevalue.specs.TimeValue.{IsTime};
 ghost use Rattle.zone.specs.Zone.{records, Accepted};
 ghost use Rattle.writer.specs.Writer.{isoOutcome, utcOutcome, toDateString, localOutcome};
 
-// The fields of a whole time, all at once, for the printing functions.
+// The fields of a whole time, by the calendar's functions, for the printing functions.
 fn date_fields(t: f64) -> DateFields
-    requires { ⌜ Takes t ⌝ }
+    requires { ⌜ IsShown t ⌝ }
     ensures { λ r. ⌜ FieldsAt (truncZ t) r ⌝ }
 {
-    let p = parts::parts_of(t);
+    let day = calendar::year_month_date(t);
+    let clock = calendar::clock_of(t);
     DateFields {
-        year: p.year,
-        month: p.month as u8,
-        date: p.date as u8,
-        hour: p.hour as u8,
-        minute: p.minute as u8,
-        second: p.second as u8,
-        weekday: p.weekday as u8,
-        ms: p.ms as u16,
+        year: day.year,
+        month: day.month,
+        date: day.date,
+        hour: clock.hour,
+        minute: clock.minute,
+        second: clock.second,
+        weekday: calendar::week_day(t),
+        ms: clock.ms,
     }
 }
 
@@ -49,7 +49,7 @@ fn reply(value: u64, printed: Printed) -> Reply
 
 // The ISO text, and below it the UTC text, of a whole time.
 pub fn write_iso(t: f64, output: &mut [u8]) -> Reply
-    requires { ⌜ Takes t ⌝ }
+    requires { ⌜ IsShown t ⌝ }
     ensures { λ r. ⌜ Leaves (written (toBits binary64 t) (isoText (truncZ t)) (now (output .entry))) r (now (output .exit)) ⌝ }
 {
     let printed = text::iso_string(date_fields(t), output);
@@ -57,7 +57,7 @@ pub fn write_iso(t: f64, output: &mut [u8]) -> Reply
 }
 
 pub fn write_utc(t: f64, output: &mut [u8]) -> Reply
-    requires { ⌜ Takes t ⌝ }
+    requires { ⌜ IsShown t ⌝ }
     ensures { λ r. ⌜ Leaves (written (toBits binary64 t) (utcText (truncZ t)) (now (output .entry))) r (now (output .exit)) ⌝ }
 {
     let printed = text::utc_string(date_fields(t), output);
@@ -71,12 +71,10 @@ pub fn to_date_string_t(tv: f64, zone: &[u8], output: &mut [u8]) -> Reply
 {
     // 1. If tv is NaN, return "Invalid Date": `to_string` has tested that.
     // 2. Let t be LocalTime(tv).
-    let instant = timevalue::whole(tv);
-    let t = local::local_time_whole(instant, zone);
+    let t = local::local_time(tv, zone);
     // 3. Return DateString(t), SPACE, TimeString(t) and the suffix, which the original looks up at t and the standard at tv.
-    let offset = local::offset_whole(t, zone);
-    let shown = t as f64;
-    let printed = text::local_string(date_fields(shown), offset, output);
+    let offset = local::local_timezone_offset_seconds(t, zone);
+    let printed = text::local_string(date_fields(t), offset, output);
     reply(float::bits_of(tv), printed)
 }
 

@@ -8,9 +8,9 @@ use lib.Arith.{mod-mul}
 use lib.IntN.{ℤ, pos, negsuc}
 use lib.ListN.{length, getD}
 use lib.Signed.{mag}
-use Rattle.zone.specs.Bytes.{littleEndian, signed}
+use Rattle.little_endian.specs.Bytes.{littleEndian, signed}
 use Rattle.zone.specs.Zone.{Record, recordAt, records, listed, IsZoneList, Accepted, offsetAt}
-use Rattle.zone.proofs.Numbers.{signed-low, signed-high}
+use Rattle.little_endian.proofs.Numbers.{signed-low, signed-high}
 use Rattle.zone.proofs.Rule.{records-length}
 use Rattle.zone_records.specs.declared.ZoneRecord.{ZoneRecord}
 use Rattle.zone_records.specs.Slice.{asRecord, asRecords}

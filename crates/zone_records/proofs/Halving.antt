@@ -11,8 +11,8 @@ use lib.IntN.{ℤ, pos}
 use lib.ListN.{length, getD, length-map, List·getD-map}
 use lib.Dec.{T}
 use lib.Signed.{leZ, _≤ℤ_, _<ℤ_, leZ-yes}
-use Rattle.ecma262.proofs.Int.{ints}
-use Rattle.ecma262.proofs.Machine.{le-false}
+use Rattle.integers.proofs.Int.{ints}
+use Rattle.integers.proofs.Machine.{le-false}
 use Rattle.zone.specs.Zone.{Record, secondOf, offsetOf, IsZoneList, offsetAt}
 use Rattle.zone.proofs.Offset.{offset-decided}
 use Rattle.zone_records.specs.declared.ZoneRecord.{ZoneRecord}

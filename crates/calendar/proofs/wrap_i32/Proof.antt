@@ -5,9 +5,9 @@ use lib.IntN.{ℤ, pos, negsuc, _+ℤ_, _-ℤ_}
 use lib.Signed.{_≤ℤ_, _<ℤ_}
 use mir.Syntax.{w32, w64}
 use mir.Val.{SFits, toZ, ofZ}
-use Rattle.ecma262.specs.Whole.{floorMod}
-use Rattle.ecma262.proofs.Int.{ints, at, _+ᵗ_, _-ᵗ_, _/ᵗ_, Facts, read}
-use Rattle.ecma262.proofs.Machine.{fits32, fits64, lt-true, lt-false, kept, Cast, cast}
+use Rattle.integers.specs.Whole.{floorMod}
+use Rattle.integers.proofs.Int.{ints, at, _+ᵗ_, _-ᵗ_, _/ᵗ_, Facts, read}
+use Rattle.integers.proofs.Machine.{fits32, fits64, lt-true, lt-false, kept, Cast, cast}
 use Rattle.calendar.specs.Calendar.{wrap32}
 use Rattle.calendar.proofs.wrap_i32.Statement.{statement}
 use Rattle.calendar.proofs.wrap_i32.Tie as tie

@@ -3,12 +3,12 @@ use borrow.Author.Needs.{needs}
 use mathlib.Core.Path.{sym, ap, _∙_, subst}
 use lib.IntN.{ℤ, pos, negsuc, _+ℤ_}
 use lib.Signed.{mag, _≤ℤ_}
-use lib.Ieee.{binary64, ofBits, ofInt, toSigned}
+use lib.Ieee.{ofBits, ofInt, toSigned}
 use Prim.Native.Nat.{_<_}
 use mir.Syntax.{w32, w64}
-use Rattle.ecma262.proofs.Int.{ints, at, _+ᵗ_, read}
-use Rattle.ecma262.proofs.Machine.{kept, Widened}
-use Rattle.calendar.specs.Calendar.{num, wrap32, yearEstimateF}
+use Rattle.integers.proofs.Int.{ints, at, _+ᵗ_, read}
+use Rattle.integers.proofs.Machine.{kept, Widened}
+use Rattle.calendar.specs.Calendar.{wrap32, yearEstimateF}
 use Rattle.calendar.proofs.Step.{of-32, moved, in-32}
 use Rattle.calendar.proofs.year_estimate.Statement.{statement}
 use Rattle.calendar.proofs.year_estimate.Tie as tie

@@ -5,7 +5,7 @@ use native.Mathlib.Omega.{arith}
 use lib.Ieee.{toSigned}
 use mir.Syntax.{w64}
 use mir.Val.{toZ, ofZ}
-use Rattle.ecma262.proofs.Machine.{kept}
+use Rattle.integers.proofs.Machine.{kept}
 use Rattle.datelines.specs.Lines.{signedDecimal, acceptedLine}
 use Rattle.datelines.proofs.Runs.{stores, puts-as, puts-then}
 use Rattle.datelines.proofs.Decimal.{signed-length}

@@ -5,7 +5,7 @@ use mathlib.Core.List.{_++_}
 use Rattle.ecma262.specs.Texts.{ascii}
 use Rattle.datelines.specs.Lines.{decimal}
 use Rattle.datelines.proofs.Runs.{stores, puts-as, puts-then}
-use Rattle.ecma262.proofs.Machine.{below-zero, from-zero, abs-of}
+use Rattle.integers.proofs.Machine.{below-zero, from-zero, abs-of}
 use Rattle.datelines.proofs.Sign.{signed-below, signed-from}
 use Rattle.datelines.proofs.put_signed.Statement.{statement}
 use Rattle.datelines.proofs.put_signed.Tie as tie

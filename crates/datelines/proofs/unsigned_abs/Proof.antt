@@ -3,7 +3,7 @@ use lib.IntN.{pos}
 use lib.Signed.{_<ℤ_, yes-nonNeg}
 use mir.Facts.{toZ-ofZ, fits-natAbs}
 use borrow.Author.Needs.{needs}
-use Rattle.ecma262.proofs.Machine.{below-zero, from-zero, flip-abs, flip-nonneg, flip-fits}
+use Rattle.integers.proofs.Machine.{below-zero, from-zero, flip-abs, flip-nonneg, flip-fits}
 use Rattle.datelines.proofs.unsigned_abs.Statement.{statement}
 use Rattle.datelines.proofs.unsigned_abs.Tie as tie
 

@@ -3,7 +3,7 @@ use native.Mathlib.Omega.{arith}
 use lib.IntN.{pos}
 use lib.Signed.{_<ℤ_, yes-nonNeg}
 use mir.Facts.{toZ-ofZ, fits-natAbs}
-use Rattle.ecma262.proofs.Machine.{below-zero, from-zero, flip-nonneg, flip-fits}
+use Rattle.integers.proofs.Machine.{below-zero, from-zero, flip-nonneg, flip-fits}
 use Rattle.doors.proofs.Words.{flipped, plain}
 use Rattle.doors.proofs.word.Statement.{statement}
 use Rattle.doors.proofs.word.Tie as tie

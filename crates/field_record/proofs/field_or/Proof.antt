@@ -1,12 +1,12 @@
 -- `field_record::field_or` meets its contract: a field that stands is read at its place, and the next one's place follows it. Assumes nothing.
 use borrow.Author.Needs.{needs}
 use mathlib.Core.Path.{_≡_, sym, ap, _∙_}
-use Prim.Native.Nat.{_+_, _/_, _%_, _^_}
+use Prim.Native.Nat.{_/_, _%_, _^_}
 use native.Mathlib.Omega.{arith}
 use lib.Ieee.{binary64, ofBits}
-use Rattle.zone.specs.Bytes.{littleEndian}
+use Rattle.little_endian.specs.Bytes.{littleEndian}
 use Rattle.field_record.specs.FieldRecord.{mapOf, fieldAt}
-use Rattle.field_record.proofs.Laws.{right-length, place-absent, place-given, place-room, field-absent, field-given}
+use Rattle.field_record.proofs.Laws.{right-length, place-absent, place-given, place-room, bit-absent, bit-given, field-absent, field-given}
 use Rattle.field_record.proofs.field_or.Statement.{statement}
 use Rattle.field_record.proofs.field_or.Tie as tie
 
@@ -27,7 +27,11 @@ returns : tie.Need-returns
 returns c =
     let p = c .before .before .before in
     let a = p .args in
-    (sym (field-absent (a .fields .now) (a .bit) (a .absent) (c .if1 .taken)), p .pre .place ∙ sym (place-absent (a .fields .now) (a .bit) (c .if1 .taken)))
+    record {
+      given-is = sym (bit-absent (a .fields .now) (a .bit) (c .if1 .taken));
+      value-is = sym (field-absent (a .fields .now) (a .bit) (a .absent) (c .if1 .taken));
+      next-is = p .pre .place ∙ sym (place-absent (a .fields .now) (a .bit) (c .if1 .taken));
+    }
 
 u64-at-requires : tie.Need-u64-at-requires
 u64-at-requires c κs =
@@ -47,10 +51,14 @@ unfolding fieldAt
 returns-2 c =
     let e = c .before .before in
     let p = e .before .before .before in
-    let a = p .args in (
-      c .of-bits .ensures ∙ ap (ofBits binary64) (c .before .u64-at .ensures ∙ ap (littleEndian 8 (a .fields .now)) (p .pre .place)) ∙ sym (field-given (a .fields .now) (a .bit) (a .absent) (stand e)),
-      omega (arith, p .pre .place, place-given (a .fields .now) (a .bit) (stand e)),
-    )
+    let a = p .args in
+    record {
+      given-is = sym (bit-given (a .fields .now) (a .bit) (stand e));
+      value-is =
+          c .of-bits .ensures ∙ ap (ofBits binary64) (c .before .u64-at .ensures ∙ ap (littleEndian 8 (a .fields .now)) (p .pre .place))
+          ∙ sym (field-given (a .fields .now) (a .bit) (a .absent) (stand e));
+      next-is = omega (arith, p .pre .place, place-given (a .fields .now) (a .bit) (stand e));
+    }
 
 pub field-or-spec : {M : Type 1} → statement M
 field-or-spec =

@@ -4,7 +4,7 @@ use lib.IntN.{pos}
 use lib.Signed.{_<ℤ_, yes-nonNeg}
 use mir.Facts.{toZ-ofZ, fits-natAbs}
 use borrow.Author.Needs.{needs}
-use Rattle.ecma262.proofs.Machine.{below-zero, from-zero, flip-nonneg, flip-fits}
+use Rattle.integers.proofs.Machine.{below-zero, from-zero, flip-nonneg, flip-fits}
 use Rattle.float_test.proofs.bits.Statement.{statement}
 use Rattle.float_test.proofs.bits.Tie as tie
 

@@ -4,7 +4,7 @@ use mathlib.Core.Path.{ap, _∙_}
 use lib.IntN.{ℤ}
 use lib.Ieee.{binary64, add, mul, ofBits, ofInt}
 use mir.Syntax.{w32}
-use Rattle.ecma262.proofs.Machine.{kept}
+use Rattle.integers.proofs.Machine.{kept}
 use Rattle.calendar.specs.Calendar.{num}
 use Rattle.local.specs.Local.{localTimeF}
 use Rattle.local.proofs.local_time.Statement.{statement}

@@ -2,7 +2,7 @@
 use borrow.Author.Needs.{needs}
 use mathlib.Core.Path.{ap, _∙_}
 use mir.Syntax.{w32, w64}
-use Rattle.ecma262.proofs.Machine.{kept}
+use Rattle.integers.proofs.Machine.{kept}
 use Rattle.zone.specs.Zone.{records, offsetAt}
 use Rattle.local.specs.Local.{offsetSecondsF}
 use Rattle.local.proofs.local_timezone_offset_seconds.Statement.{statement}

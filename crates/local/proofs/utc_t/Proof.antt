@@ -5,7 +5,7 @@ use lib.IntN.{ℤ}
 use borrow.Author.Tests.{not-true, not-false}
 use lib.Ieee.{binary64, sub, mul, div, ofBits, ofInt}
 use mir.Syntax.{w32}
-use Rattle.ecma262.proofs.Machine.{kept}
+use Rattle.integers.proofs.Machine.{kept}
 use Rattle.calendar.specs.Calendar.{num}
 use Rattle.zone.specs.Zone.{records}
 use Rattle.local.proofs.Tests.{utc-not-finite, utc-finite}

@@ -1,59 +1,59 @@
 -- `reader::answer_at` meets its contract. Assumes nothing.
 use borrow.Author.Needs.{needs}
-use mathlib.Core.Path.{_≡_, sym, ap, _∙_, subst}
-use mathlib.Core.Logic.{inl, inr}
-use Prim.Native.Nat.{ℕ, _<_}
+use mathlib.Core.Path.{_≡_, ap, _∙_}
+use Prim.Native.Nat.{_≤_, _<_}
 use native.Mathlib.Omega.{arith}
-use lib.Dec.{T}
-use lib.IntN.{ℤ, pos, _-ℤ_}
-use lib.Ieee.{binary64, ofInt, toBits, inFloat}
+use lib.IntN.{ℤ, pos, negsuc, natAbs}
+use lib.Signed.{_≤ℤ_, _<ℤ_}
 use mir.Syntax.{w64}
-use mir.Val.{SFits, toZ, ofZ}
-use mir.Facts.{toZ-pos}
-use Rattle.ecma262.proofs.Int.{at, _-ᵗ_, read}
-use Rattle.ecma262.proofs.Machine.{fits64, kept}
+use mir.Val.{toZ, ofZ}
+use Rattle.integers.proofs.Int.{ints, abs-out}
+use Rattle.integers.proofs.Machine.{kept, lt-true, lt-false}
+use Rattle.ecma262.specs.Date.{timeRange}
 use Rattle.float.proofs.Casts.{int-in-float}
 use Rattle.answer.specs.declared.Reply.the-variants.{Time}
-use Rattle.reader.proofs.Counting.{beyond, inside, answer-beyond, answer-inside}
+use Rattle.reader.specs.Outcome.{answerAt}
+use Rattle.reader.proofs.Answers.{answer-beyond, answer-inside}
 use Rattle.reader.proofs.answer_at.Statement.{statement}
 use Rattle.reader.proofs.answer_at.Tie as tie
 
-natural : (u : ℕ) → u < 200000000000000000 → toZ w64 u ≡ pos u
-natural u h = toZ-pos w64 (omega arith)
+-- ---- what the tests say of the time
+below : (t : ℤ) → t <ℤ negsuc 8639999999999999 → timeRange < natAbs t
+below (pos n) h = absurd (omega ints)
+below (negsuc n) h = omega ints
 
-fits : (u : ℕ) → u < 200000000000000000 → SFits w64 (pos u -ℤ pos 37930477996800000)
-fits u h = fits64 (pos u -ℤ pos 37930477996800000) (omega (arith, read (at (pos u) -ᵗ at (pos 37930477996800000))))
+above : (t : ℤ) → pos 8640000000000000 <ℤ t → timeRange < natAbs t
+above (pos n) h = omega ints
+above (negsuc n) h = absurd (omega ints)
 
-value : (u : ℕ) → u < 200000000000000000 → toZ w64 (ofZ w64 (toZ w64 u -ℤ pos 37930477996800000)) ≡ pos u -ℤ pos 37930477996800000
-value u h = ap (λ (z : ℤ). toZ w64 (ofZ w64 (z -ℤ pos 37930477996800000))) (natural u h) ∙ kept (fits u h)
+inside : (t : ℤ) → negsuc 8639999999999999 ≤ℤ t → t ≤ℤ pos 8640000000000000 → natAbs t ≤ timeRange
+inside t h k = abs-out t (omega ints)
+
+-- ---- the time as the machine holds it
+module _ (s : tie.Start) where
+  abbrev t : ℤ
+  t = toZ w64 (ofZ w64 (s .args .t))
+
+  same : answerAt t ≡ answerAt (s .args .t)
+  same = ap answerAt (kept (s .fits .t))
+
+within : (c : tie.Else2) → natAbs (t (c .before .before)) ≤ timeRange
+within c = inside (t (c .before .before)) (lt-false (c .before .if1 .left)) (lt-false (c .if2 .left))
 
 returns : tie.Need-returns
-returns c = answer-beyond _ (beyond (c .before .args .u) (inl (c .if1 .taken)))
+returns c = let s = c .before in answer-beyond (t s) (below (t s) (lt-true (c .if1 .taken))) ∙ same s
 
 returns-2 : tie.Need-returns-2
-returns-2 c = answer-beyond _ (beyond (c .before .before .args .u) (inr (c .if2 .taken)))
-
-cast-t : tie.Need-cast-t
-cast-t c = search needs
-
-sub-t : tie.Need-sub-t
-sub-t c = let u = c .before .before .args .u in subst (λ (z : ℤ). SFits w64 (z -ℤ pos 37930477996800000)) (sym (natural u (c .before .before .pre))) (fits u (c .before .before .pre))
+returns-2 c = let s = c .before .before in answer-beyond (t s) (above (t s) (lt-true (c .if2 .taken))) ∙ same s
 
 int-to-float-bits-of : tie.Need-int-to-float-bits-of
-int-to-float-bits-of c =
-    let a = c .before .before .before in
-    subst (λ (z : ℤ). T (inFloat binary64 z)) (sym (value (a .args .u) (a .pre))) (int-in-float _ (omega (arith, inside (a .args .u) (c .before .before .if1 .left) (c .before .if2 .left))))
+int-to-float-bits-of c = int-in-float (t (c .before .before .before)) (omega (arith, within (c .before)))
 
 bits-of-requires : tie.Need-bits-of-requires
 bits-of-requires c κs = search needs
 
 returns-3 : tie.Need-returns-3
-returns-3 c =
-    let a = c .before .before .before .before in
-    ap Time (c .bits-of .ensures ∙ ap (λ (z : ℤ). toBits binary64 (ofInt binary64 z)) (value (a .args .u) (a .pre)))
-    ∙ answer-inside _ (inside (a .args .u) (c .before .before .before .if1 .left) (c .before .before .if2 .left))
+returns-3 c = let s = c .before .before .before .before in ap Time (c .bits-of .ensures) ∙ answer-inside (t s) (within (c .before .before)) ∙ same s
 
 pub answer-at-spec : {M : Type 1} → statement M
-answer-at-spec =
-    tie.close
-    (tie.spec returns returns-2 cast-t sub-t int-to-float-bits-of bits-of-requires returns-3)
+answer-at-spec = tie.close (tie.spec returns returns-2 int-to-float-bits-of bits-of-requires returns-3)

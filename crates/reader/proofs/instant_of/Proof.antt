@@ -1,14 +1,20 @@
 -- `reader::instant_of` meets its contract. Assumes nothing.
 use borrow.Author.Needs.{needs}
-use mathlib.Core.Path.{ap, _∙_}
-use Prim.Native.Nat.{_+_, _*_, _<_}
+use mathlib.Core.Path.{_≡_, sym, ap, _∙_, subst}
+use Prim.Native.Nat.{_≤_}
 use native.Mathlib.Omega.{arith}
-use lib.IntN.{ℤ, pos, _+ℤ_}
-use Rattle.ecma262.specs.Format.{YearBounds, DateBounds, TimeBounds, ZoneBounds, zoneOffset}
+use lib.Dec.{lit<}
+use lib.IntN.{ℤ, pos, natAbs, _-ℤ_}
+use mir.Syntax.{w64}
+use mir.Val.{toZ, ofZ}
+use Rattle.integers.proofs.Machine.{kept}
+use Rattle.ecma262.specs.Date.{MakeDay, MakeDate}
+use Rattle.ecma262.specs.Format.{YearBounds, DateBounds, TimeBounds, ZoneBounds, yearNumber, dateMonth, dateDay, timeHour, timeMinute, timeSecond, timeMs, zoneOffset}
+use Rattle.ecma262.specs.Format.Form.{timed}
+use Rattle.ecma262.proofs.Clock.{make-time}
 use Rattle.zone.specs.Zone.{records}
 use Rattle.parser.specs.Answer.{asYear, asDate, asTime, asZone}
-use Rattle.reader.specs.Denotes.{lessOffset, instantOf}
-use Rattle.reader.proofs.Counting.{date-instant, timed-fields, back}
+use Rattle.reader.specs.Denotes.{fieldsTime, lessOffset, instantOf}
 use Rattle.reader.proofs.instant_of.Statement.{statement}
 use Rattle.reader.proofs.instant_of.Tie as tie
 
@@ -16,72 +22,55 @@ bounds : (c : tie.After-known-told2) → YearBounds (asYear (c .before .form2 .g
     × TimeBounds (asTime (c .before .form2 .given .0 .1 .1 .0)) × ZoneBounds (asZone (c .before .form2 .given .0 .1 .1 .1 .0))
 bounds c = rw (c .before .form2 .given .1) at (c .before .before .before .before .pre .1)
 
+handed : (c : tie.After-fields-time2) → toZ w64 (ofZ w64 (c .fields-time2 .result)) ≡ c .fields-time2 .result
+handed c = kept {w = w64} (record { sfits = c .fields-time2 .ok })
+
+-- the time within the day is MakeTime of its fields
+time : (c : tie.After-fields-time2) → let f = c .before .before .before .form2 .given .0 in c .fields-time2 .result ≡ fieldsTime (timed (asYear (f .0)) (asDate (f .1 .0)) (asTime (f .1 .1 .0)) (asZone (f .1 .1 .1 .0)))
+unfolding fieldsTime
+time c =
+    let f = c .before .before .before .form2 .given .0 in
+    let t = asTime (f .1 .1 .0) in
+    c .fields-time2 .ensures .0
+    ∙ ap (MakeDate (MakeDay (yearNumber (asYear (f .0))) (pos (dateMonth (asDate (f .1 .0))) -ℤ pos 1) (pos (dateDay (asDate (f .1 .0))))))
+    (ap pos (c .before .clock-count .ensures .0) ∙ sym (make-time (timeHour t) (timeMinute t) (timeSecond t) (timeMs t)))
+
 enum-known-form : tie.Need-enum-known-form
 enum-known-form c = search needs
 
-day-count-requires : tie.Need-day-count-requires
-day-count-requires c κs = rw (c .before .form .given .1) at (c .before .before .before .before .pre .1)
-
-cast-result : tie.Need-cast-result
-cast-result c = search needs
-
-mul-result : tie.Need-mul-result
-mul-result c = search needs
+fields-time-requires : tie.Need-fields-time-requires
+fields-time-requires c κs =
+    let b : YearBounds (asYear (c .before .form .given .0 .0)) × DateBounds (asDate (c .before .form .given .0 .1 .0)) = rw (c .before .form .given .1) at (c .before .before .before .before .pre .1) in
+    (b .0, b .1, lit< tt)
 
 enum-known-form-2 : tie.Need-enum-known-form-2
 enum-known-form-2 c = search needs
 
-day-count-requires-2 : tie.Need-day-count-requires-2
-day-count-requires-2 c κs = let b = bounds c in (b .0, b .1)
-
-cast-day : tie.Need-cast-day
-cast-day c = search needs
-
 clock-count-requires : tie.Need-clock-count-requires
-clock-count-requires c κs = bounds (c .before) .2
+clock-count-requires c κs = bounds c .2
 
-cast-time : tie.Need-cast-time
-cast-time c = search needs
-
-mul-less-zone : tie.Need-mul-less-zone
-mul-less-zone c = search needs
-
-add-less-zone : tie.Need-add-less-zone
-add-less-zone c = search needs
+fields-time-requires-2 : tie.Need-fields-time-requires-2
+fields-time-requires-2 c κs = let b = bounds (c .before) in (b .0, b .1, omega (arith, c .clock-count .ensures .1))
 
 less-zone-requires : tie.Need-less-zone-requires
-less-zone-requires c κs = (c .before .before .before .before .before .before .pre .0, (omega (arith, c .before .day-count2 .ensures), omega (arith, c .before .day-count2 .ensures, c .clock-count .ensures)), bounds (c .before .before) .3)
+less-zone-requires c κs = (
+  c .before .before .before .before .before .before .pre .0,
+  subst (λ (z : ℤ). natAbs z ≤ 37000000000000000) (sym (handed c)) (c .fields-time2 .ensures .1),
+  bounds (c .before .before) .3,
+)
 
 returns : tie.Need-returns
-returns c =
-    let a = c .before .before .before .before .before in
-    let f = c .before .before .form .given in
-    rw (f .1) (date-instant (records (a .args .zone .now)) (asYear (f .0 .0)) (asDate (f .0 .1 .0)) (c .day-count .result) (c .day-count .ensures .0), omega (arith, c .day-count .ensures))
+unfolding instantOf fieldsTime
+returns c = rw (c .before .before .form .given .1) (kept {w = w64} (record { sfits = c .fields-time .ok }) ∙ c .fields-time .ensures .0)
 
 returns-2 : tie.Need-returns-2
 unfolding instantOf
 returns-2 c =
-    let a = c .before .before .before .before .before .before .before in
-    let f = c .before .before .before .before .form2 .given in
-    let z = asZone (f .0 .1 .1 .1 .0) in
-    let time = timed-fields (asYear (f .0 .0)) (asDate (f .0 .1 .0)) (asTime (f .0 .1 .1 .0)) z (c .before .before .day-count2 .result) (c .before .clock-count .result) (c .before .before .day-count2 .ensures .0) (c .before .clock-count .ensures .0) in
-    rw (f .1) (c .less-zone .ensures .0 ∙ ap (λ (t : ℤ). lessOffset (records (a .args .zone .now)) (zoneOffset z) t +ℤ pos 37930477996800000) (back _ _ time), c .less-zone .ensures .1)
+    let zone = c .before .before .before .before .before .before .before .args .zone .now in
+    let z = c .before .before .before .before .form2 .given .0 .1 .1 .1 .0 in
+    rw (c .before .before .before .before .form2 .given .1)
+    (kept {w = w64} (record { sfits = c .less-zone .ok }) ∙ c .less-zone .ensures ∙ ap (lessOffset (records zone) (zoneOffset (asZone z))) (handed (c .before) ∙ time (c .before)))
 
 pub instant-of-spec : {M : Type 1} → statement M
 instant-of-spec =
-    tie.close
-    (tie.spec
-    enum-known-form
-    day-count-requires
-    cast-result
-    mul-result
-    enum-known-form-2
-    day-count-requires-2
-    cast-day
-    clock-count-requires
-    cast-time
-    mul-less-zone
-    add-less-zone
-    less-zone-requires
-    returns
-    returns-2)
+    tie.close (tie.spec enum-known-form fields-time-requires enum-known-form-2 clock-count-requires fields-time-requires-2 less-zone-requires returns returns-2)

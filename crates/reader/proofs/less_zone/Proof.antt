@@ -1,18 +1,31 @@
 -- `reader::less_zone` meets its contract, case by case. Assumes nothing.
 use borrow.Author.Needs.{needs}
-use mathlib.Core.Path.{_≡_}
-use Prim.Native.Nat.{ℕ, _+_, _*_, _≤_, _<_}
-use native.Mathlib.Omega.{arith}
+use mathlib.Core.Path.{_≡_, refl, sym, ap, _∙_, subst}
+use mathlib.Core.Bool.{Bool, true, false}
+use mathlib.Core.List.{List, []}
+use Prim.Native.Nat.{ℕ, _≤_}
 use lib.Dec.{lit≤}
-use lib.IntN.{pos, _+ℤ_, _-ℤ_}
-use Rattle.ecma262.proofs.Int.{ints, at, _+ᵗ_, _-ᵗ_, read}
-use Rattle.zone.specs.Zone.{records}
-use Rattle.reader.proofs.Counting.{offset-counted}
+use lib.IntN.{ℤ, natAbs}
+use mir.Syntax.{w64}
+use mir.Val.{toZ, ofZ}
+use Rattle.integers.proofs.Machine.{kept}
+use Rattle.ecma262.specs.Format.Offset.{offset}
+use Rattle.zone.specs.Zone.{Record, records}
+use Rattle.local.specs.Local.{utcTime}
+use Rattle.reader.specs.Denotes.{lessOffset}
 use Rattle.reader.proofs.less_zone.Statement.{statement}
 use Rattle.reader.proofs.less_zone.Tie as tie
 
-counted : (u : ℕ) → pos u ≡ pos u -ℤ pos 37930477996800000 +ℤ pos 37930477996800000
-counted u = omega (ints, read (at (pos u) -ᵗ at (pos 37930477996800000) +ᵗ at (pos 37930477996800000)))
+-- a written offset is the same under every list
+any-list : (list : List Record) (negative : Bool) (h m : ℕ) (t : ℤ) → lessOffset [] (offset negative h m) t ≡ lessOffset list (offset negative h m) t
+any-list list true h m t = refl
+any-list list false h m t = refl
+
+handed : (s : tie.Start) → toZ w64 (ofZ w64 (s .args .t)) ≡ s .args .t
+handed s = kept (s .fits .t)
+
+small : (s : tie.Start) → natAbs (toZ w64 (ofZ w64 (s .args .t))) ≤ 37000000000000000
+small s = subst (λ (z : ℤ). natAbs z ≤ 37000000000000000) (sym (handed s)) (s .pre .1)
 
 enum-told : tie.Need-enum-told
 enum-told c = search needs
@@ -28,51 +41,45 @@ enum-known-z c = search needs
 
 less-offset-requires : tie.Need-less-offset-requires
 less-offset-requires c κs =
-    let p = c .before .before .before .before .pre in
-    let b : c .before .z .given .0 .1 .0 ≤ 23 = rw (c .before .z .given .1) at (p .2) in
-    (p .1 .0, p .1 .1, b, lit≤ tt)
+    let s = c .before .before .before .before in
+    let b : c .before .z .given .0 .1 .0 ≤ 23 = rw (c .before .z .given .1) at (s .pre .2) in
+    (small s, b, lit≤ tt)
 
 enum-known-z-2 : tie.Need-enum-known-z-2
 enum-known-z-2 c = search needs
 
 less-offset-requires-2 : tie.Need-less-offset-requires-2
 less-offset-requires-2 c κs =
-    let p = c .before .before .before .before .pre in
-    let b : (c .before .z2 .given .0 .1 .0 ≤ 23) × (c .before .z2 .given .0 .1 .1 .0 ≤ 59) = rw (c .before .z2 .given .1) at (p .2) in
-    (p .1 .0, p .1 .1, b .0, b .1)
+    let s = c .before .before .before .before in
+    let b : (c .before .z2 .given .0 .1 .0 ≤ 23) × (c .before .z2 .given .0 .1 .1 .0 ≤ 59) = rw (c .before .z2 .given .1) at (s .pre .2) in
+    (small s, b .0, b .1)
 
 returns : tie.Need-returns
-returns c = rw (c .before .enum-told .given .1) (c .less-local .ensures)
+returns c =
+    let s = c .before .before .before .before in
+    rw (c .before .enum-told .given .1)
+    (kept {w = w64} (record { sfits = c .less-local .ok }) ∙ c .less-local .ensures ∙ ap (utcTime (records (s .args .zone .now))) (handed s))
 
 returns-2 : tie.Need-returns-2
-returns-2 c =
-    let a = c .before .before .before in
-    rw (c .enum-told2 .given .1) (counted (a .args .u), omega (arith, a .pre .1 .1))
+returns-2 c = rw (c .enum-told2 .given .1) (handed (c .before .before .before))
 
 returns-3 : tie.Need-returns-3
 returns-3 c =
-    let a = c .before .before .before .before .before in
+    let s = c .before .before .before .before .before in
     let z = c .before .before .z .given in
-    rw (z .1) (offset-counted (records (a .args .zone .now)) (z .0 .0) (z .0 .1 .0) 0 (a .args .u) (c .less-offset .result) _ (counted (a .args .u)) (c .less-offset .ensures .0), c .less-offset .ensures .1)
+    rw (z .1)
+    (kept {w = w64} (record { sfits = c .less-offset .ok }) ∙ c .less-offset .ensures ∙ ap (lessOffset [] (offset (z .0 .0) (z .0 .1 .0) 0)) (handed s)
+    ∙ any-list (records (s .args .zone .now)) (z .0 .0) (z .0 .1 .0) 0 (s .args .t))
 
 returns-4 : tie.Need-returns-4
 returns-4 c =
-    let a = c .before .before .before .before .before in
+    let s = c .before .before .before .before .before in
     let z = c .before .before .z2 .given in
-    rw (z .1) (offset-counted (records (a .args .zone .now)) (z .0 .0) (z .0 .1 .0) (z .0 .1 .1 .0) (a .args .u) (c .less-offset2 .result) _ (counted (a .args .u)) (c .less-offset2 .ensures .0), c .less-offset2 .ensures .1)
+    rw (z .1)
+    (kept {w = w64} (record { sfits = c .less-offset2 .ok }) ∙ c .less-offset2 .ensures ∙ ap (lessOffset [] (offset (z .0 .0) (z .0 .1 .0) (z .0 .1 .1 .0))) (handed s)
+    ∙ any-list (records (s .args .zone .now)) (z .0 .0) (z .0 .1 .0) (z .0 .1 .1 .0) (s .args .t))
 
 pub less-zone-spec : {M : Type 1} → statement M
 less-zone-spec =
     tie.close
-    (tie.spec
-    enum-told
-    less-local-requires
-    enum-told-2
-    enum-known-z
-    less-offset-requires
-    enum-known-z-2
-    less-offset-requires-2
-    returns
-    returns-2
-    returns-3
-    returns-4)
+    (tie.spec enum-told less-local-requires enum-told-2 enum-known-z less-offset-requires enum-known-z-2 less-offset-requires-2 returns returns-2 returns-3 returns-4)

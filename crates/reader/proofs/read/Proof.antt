@@ -3,13 +3,14 @@ use borrow.Author.Needs.{needs}
 use borrow.Author.Tests.{not-true, not-false}
 use mathlib.Core.Path.{_≡_, sym, ap, _∙_}
 use mathlib.Core.Bool.{true}
+use mir.Syntax.{w64}
+use Rattle.integers.proofs.Machine.{kept}
 use Rattle.zone.specs.Zone.{accepts}
 use Rattle.zone.proofs.Rule.{accepts-sound}
 use Rattle.parser.specs.Answer.{asReading, asForm}
 use Rattle.parser.proofs.Accepts.{read-printed}
 use Rattle.answer.specs.declared.Reply.the-variants.{Refused}
 use Rattle.reader.specs.Outcome.{answerAt}
-use Rattle.reader.proofs.Counting.{back}
 use Rattle.reader.proofs.Answers.{list-refused, text-refused, text-read}
 use Rattle.reader.proofs.read.Statement.{statement}
 use Rattle.reader.proofs.read.Tie as tie
@@ -56,7 +57,7 @@ returns-3 : tie.Need-returns-3
 returns-3 c =
     let p = c .before .before .before .before .before in
     let f = c .before .before .before .form .given in
-    c .answer-at .ensures ∙ ap answerAt (back _ _ (c .before .instant-of .ensures .0))
+    c .answer-at .ensures ∙ ap answerAt (kept {w = w64} (record { sfits = c .before .instant-of .ok }) ∙ c .before .instant-of .ensures)
     ∙ text-read _ _ (asForm (f .0 .0)) (accepted (p .before)) (sym (p .parse-text .ensures) ∙ ap asReading (f .1))
 
 pub read-spec : {M : Type 1} → statement M

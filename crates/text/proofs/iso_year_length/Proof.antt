@@ -4,7 +4,7 @@ use native.Mathlib.Omega.{arith}
 use lib.ListN.{length}
 use borrow.Author.Needs.{needs}
 use Rattle.ecma262.proofs.Texts.{iso-below, iso-four, iso-above}
-use Rattle.ecma262.proofs.Machine.{below-zero, from-zero, abs-of}
+use Rattle.integers.proofs.Machine.{below-zero, from-zero, abs-of}
 use Rattle.text.proofs.iso_year_length.Statement.{statement}
 use Rattle.text.proofs.iso_year_length.Tie as tie
 

@@ -1,6 +1,6 @@
 -- `text::offset_sign` meets its contract: the two signs of an offset. Assumes nothing.
 use Rattle.ecma262.proofs.Texts.{offset-below, offset-from}
-use Rattle.ecma262.proofs.Machine.{below-zero, from-zero}
+use Rattle.integers.proofs.Machine.{below-zero, from-zero}
 use Rattle.text.proofs.offset_sign.Statement.{statement}
 use Rattle.text.proofs.offset_sign.Tie as tie
 

@@ -3,7 +3,7 @@ use mathlib.Core.Path.{refl}
 use native.Mathlib.Omega.{arith}
 use Rattle.ecma262.proofs.Texts.{iso-below, iso-four, iso-above}
 use Rattle.text.proofs.Runs.{puts-own, puts-then}
-use Rattle.ecma262.proofs.Machine.{below-zero, from-zero, abs-of}
+use Rattle.integers.proofs.Machine.{below-zero, from-zero, abs-of}
 use Rattle.text.proofs.put_iso_year.Statement.{statement}
 use Rattle.text.proofs.put_iso_year.Tie as tie
 

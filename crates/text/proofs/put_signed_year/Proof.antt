@@ -6,7 +6,7 @@ use native.Mathlib.Omega.{arith}
 use lib.ListN.{length}
 use Rattle.ecma262.specs.Texts.{paddedYear, yearSign}
 use Rattle.text.proofs.Runs.{puts-own, puts-then}
-use Rattle.ecma262.proofs.Machine.{abs-of}
+use Rattle.integers.proofs.Machine.{abs-of}
 use Rattle.text.proofs.Sign.{at-fitting, puts-fitting}
 use Rattle.text.proofs.put_signed_year.Statement.{statement}
 use Rattle.text.proofs.put_signed_year.Tie as tie

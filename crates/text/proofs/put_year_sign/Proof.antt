@@ -7,7 +7,7 @@ use lib.ListN.{length}
 use borrow.Author.Needs.{needs}
 use Rattle.ecma262.proofs.Texts.{sign-below, sign-none}
 use Rattle.text.proofs.Runs.{puts-none, puts-own}
-use Rattle.ecma262.proofs.Machine.{below-zero, from-zero}
+use Rattle.integers.proofs.Machine.{below-zero, from-zero}
 use Rattle.text.proofs.put_year_sign.Statement.{statement}
 use Rattle.text.proofs.put_year_sign.Tie as tie
 

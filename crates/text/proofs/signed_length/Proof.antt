@@ -5,7 +5,7 @@ use lib.IntN.{natAbs}
 use lib.ListN.{length}
 use Rattle.ecma262.proofs.Texts.{length-below, length-from}
 use Rattle.ecma262.specs.Texts.{paddedYear}
-use Rattle.ecma262.proofs.Machine.{below-zero, from-zero, abs-of}
+use Rattle.integers.proofs.Machine.{below-zero, from-zero, abs-of}
 use Rattle.text.proofs.signed_length.Statement.{statement}
 use Rattle.text.proofs.signed_length.Tie as tie
 

@@ -6,7 +6,7 @@ use borrow.Author.Needs.{needs}
 use Rattle.ecma262.proofs.Texts.{zone-text}
 use Rattle.ecma262.specs.Texts.{offsetSign}
 use Rattle.text.proofs.Runs.{puts-as, puts-then}
-use Rattle.ecma262.proofs.Machine.{abs-of}
+use Rattle.integers.proofs.Machine.{abs-of}
 use Rattle.text.proofs.Sign.{at-fitting}
 use Rattle.text.proofs.time_zone_string.Statement.{statement}
 use Rattle.text.proofs.time_zone_string.Tie as tie

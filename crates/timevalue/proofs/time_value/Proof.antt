@@ -1,22 +1,31 @@
 -- `timevalue::time_value` meets its contract: each way through it is a case of `judged`, at the value of the bits. Assumes nothing.
 use borrow.Author.Needs.{needs}
-use mathlib.Core.Path.{_≡_, sym, ap, _∙_}
-use mathlib.Core.Bool.{Bool}
-use lib.Ieee.{Float, binary64, eq, le, ofBits, ofInt}
-use Rattle.float.specs.Rounding.{truncF, absF}
-use Rattle.timevalue.specs.TimeValue.{judged, timeValueOf}
-use Rattle.timevalue.proofs.Steps.{judged-nan, judged-zero, judged-time, judged-large, judged-fraction}
+use mathlib.Core.Path.{_≡_, sym, ap, _∙_, subst}
+use mathlib.Core.Bool.{Bool, true, false}
+use lib.Dec.{T}
+use lib.Ieee.{Float, binary64, add, fits, ne, ofBits, ofInt}
+use lib.Ieee.Bits.{ofBits-fits}
+use Rattle.float.proofs.Special.{nan-test}
+use Rattle.timevalue.specs.declared.TimeValue.the-variants.{Time, Nan, Refused}
+use Rattle.timevalue.specs.TimeValue.{isTime, judged, timeValueOf}
+use Rattle.timevalue.proofs.Laws.{plus-zero-taken}
 use Rattle.timevalue.proofs.time_value.Statement.{statement}
 use Rattle.timevalue.proofs.time_value.Tie as tie
 
--- the tests of the code are those of the definition
-whole : (c : tie.After-trunc) {b : Bool} → eq (c .trunc .result) (c .before .before .of-bits .result) ≡ b
-    → eq (truncF (c .before .before .of-bits .result)) (c .before .before .of-bits .result) ≡ b
-whole c t = ap (λ (y : Float). eq y (c .before .before .of-bits .result)) (sym (c .trunc .ensures)) ∙ t
+-- ---- the three answers, by the two tests, of the value x of some bits
+judged-nan : (x : Float) → ne x x ≡ true → Nan ≡ judged x
+judged-nan x n = rw (sym (nan-test x) ∙ n)
 
-within : (c : tie.After-abs) {b : Bool} → le (c .abs .result) (ofBits binary64 4845505999795912704) ≡ b
-    → le (absF (c .before .before .before .before .of-bits .result)) (ofBits binary64 4845505999795912704) ≡ b
-within c t = ap (λ (y : Float). le y (ofBits binary64 4845505999795912704)) (sym (c .abs .ensures)) ∙ t
+judged-time : (x : Float) → T (fits binary64 x) → ne x x ≡ false → isTime x ≡ true → Time (add binary64 x (ofBits binary64 0)) ≡ judged x
+judged-time x f n e = rw (sym (nan-test x) ∙ n, e) (ap Time (plus-zero-taken x f e))
+
+judged-other : (x : Float) → ne x x ≡ false → isTime x ≡ false → Refused ≡ judged x
+judged-other x n e = rw (sym (nan-test x) ∙ n, e)
+
+-- the test of the code is that of the definition
+test : (c : tie.After-is-whole-within) {b : Bool} → c .is-whole-within .result ≡ b → isTime (c .before .before .of-bits .result) ≡ b
+unfolding isTime ofBits ofInt
+test c e = sym (c .is-whole-within .ensures) ∙ e
 
 of-bits-requires : tie.Need-of-bits-requires
 of-bits-requires c κs = search needs
@@ -25,51 +34,22 @@ returns : tie.Need-returns
 unfolding timeValueOf
 returns c = judged-nan (c .before .of-bits .result) (c .if1 .taken) ∙ ap judged (c .before .of-bits .ensures)
 
-trunc-requires : tie.Need-trunc-requires
-trunc-requires c κs = search needs
-
-abs-requires : tie.Need-abs-requires
-abs-requires c κs = search needs
+is-whole-within-requires : tie.Need-is-whole-within-requires
+is-whole-within-requires c κs = search needs
 
 returns-2 : tie.Need-returns-2
-unfolding timeValueOf ofBits ofInt
+unfolding timeValueOf
 returns-2 c =
-    let a = c .before .before in
-    let n = a .before .before .before in
-    judged-zero (n .before .of-bits .result) (n .if1 .left) (whole (a .before .before) (a .before .if2 .taken)) (within a (c .before .if3 .taken)) (c .if4 .taken)
-    ∙ ap judged (n .before .of-bits .ensures)
+    let n = c .before .before in
+    let b = n .before in
+    let held : T (fits binary64 (b .of-bits .result)) = subst (λ (x : Float). T (fits binary64 x)) (sym (b .of-bits .ensures)) (ofBits-fits binary64 (b .before .args .bits)) in
+    judged-time (b .of-bits .result) held (n .if1 .left) (test (c .before) (c .if2 .taken)) ∙ ap judged (b .of-bits .ensures)
 
 returns-3 : tie.Need-returns-3
-unfolding timeValueOf ofBits ofInt
-returns-3 c =
-    let a = c .before .before in
-    let n = a .before .before .before in
-    judged-time (n .before .of-bits .result) (n .if1 .left) (whole (a .before .before) (a .before .if2 .taken)) (within a (c .before .if3 .taken)) (c .if4 .left)
-    ∙ ap judged (n .before .of-bits .ensures)
-
-returns-4 : tie.Need-returns-4
-unfolding timeValueOf ofBits ofInt
-returns-4 c =
-    let a = c .before in
-    let n = a .before .before .before in
-    judged-large (n .before .of-bits .result) (n .if1 .left) (whole (a .before .before) (a .before .if2 .taken)) (within a (c .if3 .left))
-    ∙ ap judged (n .before .of-bits .ensures)
-
-returns-5 : tie.Need-returns-5
 unfolding timeValueOf
-returns-5 c =
+returns-3 c =
     let n = c .before .before in
-    judged-fraction (n .before .of-bits .result) (n .if1 .left) (whole (c .before) (c .if2 .left)) ∙ ap judged (n .before .of-bits .ensures)
+    judged-other (n .before .of-bits .result) (n .if1 .left) (test (c .before) (c .if2 .left)) ∙ ap judged (n .before .of-bits .ensures)
 
 pub time-value-spec : {M : Type 1} → statement M
-time-value-spec =
-    tie.close
-    (tie.spec
-    of-bits-requires
-    returns
-    trunc-requires
-    abs-requires
-    returns-2
-    returns-3
-    returns-4
-    returns-5)
+time-value-spec = tie.close (tie.spec of-bits-requires returns is-whole-within-requires returns-2 returns-3)

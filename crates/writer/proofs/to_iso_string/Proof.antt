@@ -1,6 +1,6 @@
 -- `writer::to_iso_string` meets its contract. Assumes nothing.
 use borrow.Author.Needs.{needs}
-use Rattle.writer.proofs.Given.{refused-leaves, iso-given, time-takes}
+use Rattle.writer.proofs.Given.{refused-leaves, iso-given, time-shown}
 use Rattle.writer.proofs.to_iso_string.Statement.{statement}
 use Rattle.writer.proofs.to_iso_string.Tie as tie
 
@@ -19,7 +19,7 @@ enum-known-t c = search needs
 write-iso-requires : tie.Need-write-iso-requires
 write-iso-requires c κs =
     let a = c .before .before in
-    time-takes _ (a .before .before .time-value .ensures) (a .t .given .1)
+    time-shown _ (a .before .before .time-value .ensures) (a .t .given .1)
 
 returns : tie.Need-returns
 returns c = iso-given _ _ (c .before .before .time-value .ensures) (c .enum-told .given .1) refused-leaves

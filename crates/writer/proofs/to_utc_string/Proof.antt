@@ -1,6 +1,6 @@
 -- `writer::to_utc_string` meets its contract. Assumes nothing.
 use borrow.Author.Needs.{needs}
-use Rattle.writer.proofs.Given.{refused-leaves, utc-given, time-takes}
+use Rattle.writer.proofs.Given.{refused-leaves, utc-given, time-shown}
 use Rattle.writer.proofs.to_utc_string.Statement.{statement}
 use Rattle.writer.proofs.to_utc_string.Tie as tie
 
@@ -22,7 +22,7 @@ enum-known-t c = search needs
 write-utc-requires : tie.Need-write-utc-requires
 write-utc-requires c κs =
     let a = c .before .before in
-    time-takes _ (a .before .before .time-value .ensures) (a .t .given .1)
+    time-shown _ (a .before .before .time-value .ensures) (a .t .given .1)
 
 returns : tie.Need-returns
 returns c = utc-given _ _ (c .before .before .time-value .ensures) (c .enum-told .given .1) refused-leaves

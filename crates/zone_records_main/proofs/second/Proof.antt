@@ -7,8 +7,8 @@ use mir.Syntax.{w64}
 use mir.Val.{SFits, toZ}
 use mir.Facts.{toZ-pos}
 use borrow.Author.Needs.{needs}
-use Rattle.ecma262.proofs.Int.{at, _-ᵗ_, read}
-use Rattle.ecma262.proofs.Machine.{fits64}
+use Rattle.integers.proofs.Int.{at, _-ᵗ_, read}
+use Rattle.integers.proofs.Machine.{fits64}
 use Rattle.zone_records_main.proofs.second.Statement.{statement}
 use Rattle.zone_records_main.proofs.second.Tie as tie
 

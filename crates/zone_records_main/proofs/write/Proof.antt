@@ -2,7 +2,7 @@
 use lib.Signed.{yes-nonNeg}
 use mir.Facts.{toZ-ofZ, fits-natAbs}
 use borrow.Author.Needs.{needs}
-use Rattle.ecma262.proofs.Machine.{below-zero, from-zero, flip-abs, flip-nonneg, flip-fits}
+use Rattle.integers.proofs.Machine.{below-zero, from-zero, flip-abs, flip-nonneg, flip-fits}
 use Rattle.zone_records_main.proofs.write.Statement.{statement}
 use Rattle.zone_records_main.proofs.write.Tie as tie
 

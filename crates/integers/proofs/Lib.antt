@@ -1,0 +1,4 @@
+pub mod Int
+pub mod Floor
+pub mod Table
+pub mod Machine

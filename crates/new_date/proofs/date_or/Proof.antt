@@ -1,0 +1,21 @@
+-- `new_date::date_or` meets its contract. Assumes nothing.
+use borrow.Author.Needs.{needs}
+use mathlib.Core.Path.{ap}
+use Rattle.calendar.specs.Calendar.{num}
+use Rattle.new_date.proofs.date_or.Statement.{statement}
+use Rattle.new_date.proofs.date_or.Tie as tie
+
+returns : tie.Need-returns
+returns c = search needs
+
+date-from-time-requires : tie.Need-date-from-time-requires
+date-from-time-requires c κs = search needs
+
+int-to-float-result : tie.Need-int-to-float-result
+int-to-float-result c = search needs
+
+returns-2 : tie.Need-returns-2
+returns-2 c = rw (c .before .before .if1 .left) (ap num (c .before .date-from-time .ensures))
+
+pub date-or-spec : {M : Type 1} → statement M
+date-or-spec = tie.close (tie.spec returns date-from-time-requires int-to-float-result returns-2)

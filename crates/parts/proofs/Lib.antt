@@ -1,3 +1,0 @@
-mod Bridge
-pub mod Years
-mod Together
