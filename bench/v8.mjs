@@ -1,4 +1,4 @@
-// The same calls by V8: one line each, name and nanoseconds, the best of many short rounds. Inputs come as lines on standard input:
+// The same calls by V8: one line each, name and nanoseconds, the best of 40 rounds. Inputs come as lines on standard input:
 // `text T`, `time MS`, `fields Y M D H MIN S MS`.
 import { readFileSync } from "node:fs";
 
@@ -23,7 +23,7 @@ const calls = {
 let sink = 0; // what the rounds add up, so that no call is dropped
 for (const [name, call] of Object.entries(calls)) {
     let best = Infinity;
-    for (let round = 0; round < 3000; round++) {
+    for (let round = 0; round < 40; round++) {
         const start = process.hrtime.bigint();
         for (let i = 0; i < text.length; i++) {
             const answer = call(i);

@@ -2,8 +2,8 @@
 
 use crate::random::Random;
 
-/// How many inputs a row has.
-pub const INPUTS: usize = 256;
+/// How many inputs a row has: too many for the processor to learn their branches.
+pub const INPUTS: usize = 65_536;
 
 /// A whole number of a stretch, its end left out.
 fn within(random: &mut Random, from: i64, to: i64) -> i64 {

@@ -25,16 +25,18 @@ fn lines(run: &Run) -> Vec<Line> {
             let rows: Vec<_> = run.rows.iter().filter(is_of).collect();
             if !rows.is_empty() {
                 let list = records.map_or(String::new(), |n| format!(", list of {n}"));
-                lines.push(line(format!("{}{list}", group.name()), group, &rows));
+                lines.push(line(format!("{}{list}", group.name()), &rows));
             }
         }
     }
     lines
 }
 
-fn line(name: String, group: Group, rows: &[&Row]) -> Line {
+/// Of rows with one bar.
+fn line(name: String, rows: &[&Row]) -> Line {
+    let bar = rows[0].group.bar(rows[0].many_records());
     let worst = |ratio: fn(&Row) -> f64| rows.iter().map(|row| ratio(row)).fold(0.0, f64::max);
-    Line { name, bar: group.bar(), ratio: worst(Row::ratio_unjudged), judged: worst(Row::ratio) }
+    Line { name, bar, ratio: worst(Row::ratio_unjudged), judged: worst(Row::ratio) }
 }
 
 /// Where a ratio stands; 1.5 is the edge.

@@ -19,6 +19,9 @@ fn of(group: Group, run: &Run) -> impl Iterator<Item = &Row> {
     run.rows.iter().filter(move |row| row.group == group)
 }
 
+/// How the longer lists are named.
+const MANY: &str = "by 200 and 1,024 records";
+
 /// The smallest and the largest of some ratios.
 fn spread(ratios: impl Iterator<Item = f64>) -> (f64, f64) {
     ratios.fold((f64::INFINITY, 0.0), |(low, high), ratio| (low.min(ratio), high.max(ratio)))
@@ -27,15 +30,17 @@ fn spread(ratios: impl Iterator<Item = f64>) -> (f64, f64) {
 fn summary(out: &mut String, run: &Run) {
     out.push_str("| Call | Ratio to the original | Bar | Holds |\n|---|---|---|---|\n");
     for group in Group::ALL {
-        let (low, high) = spread(of(group, run).map(Row::ratio_unjudged));
-        let holds = if high <= group.bar() { "yes" } else { "no" };
-        writeln!(
-            out,
-            "| {} | {low:.2} to {high:.2} | {:.2} | {holds} |",
-            group.name(),
-            group.bar()
-        )
-        .unwrap();
+        for many in [false, true] {
+            let rows: Vec<_> = of(group, run).filter(|row| row.many_records() == many).collect();
+            if rows.is_empty() {
+                continue;
+            }
+            let (low, high) = spread(rows.iter().map(|row| row.ratio_unjudged()));
+            let name = if many { format!("{}, {MANY}", group.name()) } else { group.name().into() };
+            let holds = if rows.iter().any(|row| row.misses()) { "no" } else { "yes" };
+            let bar = group.bar(many);
+            writeln!(out, "| {name} | {low:.2} to {high:.2} | {bar:.2} | {holds} |").unwrap();
+        }
     }
     out.push_str("\nLocal calls without the judging of the zone list; with it, below.\n\n");
 }
@@ -67,7 +72,9 @@ fn lists(out: &mut String, run: &Run) {
 }
 
 fn rows(out: &mut String, group: Group, run: &Run) {
-    writeln!(out, "\n### {} (bar {:.2})\n", capitalised(group.name()), group.bar()).unwrap();
+    let (bar, many) = (group.bar(false), group.bar(true));
+    let many = if many == bar { String::new() } else { format!(", {MANY} {many:.2}") };
+    writeln!(out, "\n### {} (bar {bar:.2}{many})\n", capitalised(group.name())).unwrap();
     out.push_str("| Input | Original, ns | Zovattha, ns | Ratio | Without judging |\n|---|---|---|---|---|\n");
     for row in of(group, run) {
         let unjudged = if row.records.is_some() {
@@ -75,7 +82,7 @@ fn rows(out: &mut String, group: Group, run: &Run) {
         } else {
             String::new()
         };
-        let missed = if row.ratio_unjudged() > group.bar() { " (missed)" } else { "" };
+        let missed = if row.misses() { " (missed)" } else { "" };
         writeln!(
             out,
             "| {} | {:.1} | {:.1} | {:.2} | {unjudged}{missed} |",
@@ -106,8 +113,10 @@ const HEAD: &str = "\
 Made by `bench/run --keep`; the picture is [bench.svg](bench.svg). Ratios are to the original in the same run; nanoseconds are those
 of one machine, and of a busy one.
 
-- Each row has 256 inputs, the same in every run. A round goes through them once on one side; 2,000 rounds of each side take turns,
-  in five passes over all rows, and the best round of each counts, since it is the one that nothing else disturbed.
+- Each row has 65,536 inputs, the same in every run: too many for the processor to learn their branches, as it learns those of 256,
+  on which both sides are quicker. (It is hardly the memory: 65,536 that repeat after each 256 take less than a tenth more than 256.) A
+  round goes through them once on one side; 40 rounds of each side take turns, in five passes over all rows, and the best round of each
+  counts, since it is the one that nothing else disturbed.
 - Both sides are built for release: the archive by `rt staticlib zovattha`, called through its C functions; the original's text
   unchanged, optimised as one whole with the benchmark around it. Before a row is timed, both sides' answers are compared.
 - The original's context, date objects and arguments are made beforehand, as are the lists, records and texts that the archive is

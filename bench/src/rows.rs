@@ -12,7 +12,7 @@ use zovattha::{ZoneList, ZoneRecord};
 /// The lists' lengths.
 const LISTS: [usize; 3] = [1, 200, 1024];
 
-/// What the original does, and how much of its time may be taken.
+/// What the original does.
 #[derive(Clone, Copy, PartialEq, Eq)]
 pub enum Group {
     Read,
@@ -40,11 +40,14 @@ impl Group {
         }
     }
 
-    pub fn bar(self) -> f64 {
+    /// How much of the original's time may be taken, the judging of the list aside: a local call by
+    /// a list of many records has more room.
+    pub fn bar(self, many_records: bool) -> f64 {
         match self {
-            Self::Iso | Self::Utc | Self::Local => 0.15,
-            Self::Read | Self::Build | Self::Set => 0.6,
             Self::Rewrite => 1.0,
+            _ if many_records => 0.7,
+            Self::Iso | Self::Utc | Self::Local => 0.1,
+            Self::Read | Self::Build | Self::Set => 0.6,
         }
     }
 }
@@ -63,6 +66,15 @@ pub struct Row {
 impl Row {
     pub fn ratio(&self) -> f64 {
         self.ours / self.theirs
+    }
+
+    /// Whether its list has more than one record.
+    pub fn many_records(&self) -> bool {
+        self.records.is_some_and(|records| records > 1)
+    }
+
+    pub fn misses(&self) -> bool {
+        self.ratio_unjudged() > self.group.bar(self.many_records())
     }
 
     /// The ratio without the judging of the list, which the original does not do.

@@ -1,11 +1,11 @@
-//! Timing: many short rounds in turn, the best of each side kept.
+//! Timing: rounds in turn, the best of each side kept.
 
 use std::time::Instant;
 
 /// Rounds of each side in one pass. The best round is the one that nothing else disturbed.
-const ROUNDS: usize = 400;
+const ROUNDS: usize = 8;
 
-/// Nanoseconds for each input, the best of many rounds, both sides taking turns.
+/// Nanoseconds for each input, the best of all rounds, both sides taking turns.
 pub fn both(inputs: usize, mut ours: impl FnMut(usize), mut theirs: impl FnMut(usize)) -> Pair {
     let mut pair = Pair { ours: f64::INFINITY, theirs: f64::INFINITY };
     for _ in 0..ROUNDS {
