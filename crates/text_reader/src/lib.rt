@@ -5,16 +5,10 @@ ghost use Prim.Native.Nat.{_≤_};
 ghost use lib.ListN.{length, drop};
 ghost use Rattle.parser.specs.Reading.{read};
 ghost use Rattle.parser.specs.Answer.{asReading};
-ghost use Rattle.text_reader.specs.Step.{stepAt, afterAt};
 
 pub struct Reader<'a> {
     pub text: &'a [u8],
     pub at: usize,
-}
-
-pub enum Step {
-    Byte(u8),
-    End,
 }
 
 // ---- the work, on a plain text and an index
@@ -34,22 +28,6 @@ pub fn parse_at(text: &[u8], at: usize) -> parser::Parsed
     parser::parse(&text[from..])
 }
 
-pub fn step_at(text: &[u8], at: usize) -> Step
-    ensures { λ r. ⌜ r ≡ stepAt (now (text .entry)) at ⌝ }
-{
-    if at < text.len() {
-        Step::Byte(text[at])
-    } else {
-        Step::End
-    }
-}
-
-pub fn after(text: &[u8], at: usize) -> usize
-    ensures { λ r. ⌜ r ≡ afterAt (now (text .entry)) at ⌝ }
-{
-    if at < text.len() { at + 1 } else { at }
-}
-
 // ---- the reader
 
 // The reader at the start of a text.
@@ -57,17 +35,6 @@ pub fn new<'a>(text: &'a [u8]) -> Reader<'a>
     ensures { λ r. ⌜ (r .text ≡ text .entry) × (r .at ≡ 0) ⌝ }
 {
     Reader { text, at: 0 }
-}
-
-// What stands at the next index; the reader goes past it.
-pub fn next<'s, 'a>(r: &'s mut Reader<'a>) -> Step
-    ensures { λ s. ⌜ (s ≡ stepAt (now (now (r .entry) .text)) (now (r .entry) .at))
-        × ((now (r .exit) .text ≡ now (r .entry) .text) × (now (r .exit) .at ≡ afterAt (now (now (r .entry) .text)) (now (r .entry) .at))) ⌝ }
-{
-    let text = r.text;
-    let at = r.at;
-    r.at = after(text, at);
-    step_at(text, at)
 }
 
 // The form of all that is left.
