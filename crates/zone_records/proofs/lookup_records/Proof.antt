@@ -3,6 +3,7 @@
 use mathlib.Core.Path.{sym, ap, _∙_}
 use mathlib.Core.List.{List}
 use Prim.Native.Nat.{_/_}
+use native.Mathlib.Omega.{arith}
 use lib.ListN.{length, take}
 use mir.Syntax.{w32, w64}
 use mir.Val.{toZ, ofZ}
@@ -20,7 +21,7 @@ decode-requires c κs = search needs
 lookup-first-requires : tie.Need-lookup-first-requires
 lookup-first-requires c κs =
     let list = c .before .before in
-    (accepted-size _ (list .pre) .1 .1, slice-rule _ (take (length (list .args .zone .now) / 12) (c .decode .result)) (sym (c .decode .ensures)) (list .pre))
+    (omega (arith, accepted-size _ (list .pre)), slice-rule _ (take (length (list .args .zone .now) / 12) (c .decode .result)) (sym (c .decode .ensures)) (list .pre))
 
 returns : tie.Need-returns
 returns c =
