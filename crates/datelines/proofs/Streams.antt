@@ -9,7 +9,7 @@ use native.Mathlib.Omega.{arith}
 use borrow.Author.Tests.{lt-ltb}
 use lib.Dec.{ltb, eqb, ltb→lt, nltb→le, lit≤}
 use lib.ListN.{length, take, replicate, length-append}
-use lib.Seq.{take-all, take-append-le, length-take-le}
+use lib.Seq.{take-all, take-append-le, length-take-le, sets}
 use lib.Ieee.{binary64, ofBits}
 use Rattle.integers.proofs.Int.{by-test}
 use Rattle.ecma262.proofs.Texts.{lengths-iso}
@@ -22,7 +22,7 @@ use Rattle.answer.specs.declared.Refusal.the-variants.{ZoneList}
 use Rattle.answer.specs.declared.Reply.{Reply}
 use Rattle.answer.specs.declared.Reply.the-variants.{Time, Text, Refused}
 use Rattle.reader.specs.Outcome.{answerOf, readOutcome}
-use Rattle.datelines.specs.Lines.{acceptedLine, refusedLine, answerLine, lineOf, lastOf, answersFrom, answers, behind, prints, emitted, left, answersOfChunks, joined, isoOfBits}
+use Rattle.datelines.specs.Lines.{acceptedLine, refusedLine, answerLine, lineOf, lastOf, answersFrom, answers, behind, prints, emitted, left, lent, answersOfChunks, joined, isoOfBits}
 use Rattle.datelines.proofs.Decimal.{within, signed-length}
 
 -- the prefix: no accepted text is longer than 32 bytes, so the first 33 decide
@@ -52,6 +52,11 @@ pub left-snoc : (line s : List ℕ) (b : ℕ) → left line (s ++ (b ∷ [])) �
 unfolding left
 left-snoc line [] b = refl
 left-snoc line (a ∷ s) b = left-snoc (behind line a) s b
+
+pub lent-snoc : (bytes line s : List ℕ) (b : ℕ) → lent bytes line (s ++ (b ∷ [])) ≡ sets (lent bytes line s) 0 (behind (left line s) b)
+unfolding left lent
+lent-snoc bytes line [] b = refl
+lent-snoc bytes line (a ∷ s) b = lent-snoc (sets bytes 0 (behind line a)) (behind line a) s b
 
 pub emitted-snoc : (line s : List ℕ) (b : ℕ) → emitted line (s ++ (b ∷ [])) ≡ emitted line s ++ prints (left line s) b
 unfolding left emitted

@@ -6,11 +6,12 @@ use lib.ListN.{take}
 use Rattle.datelines.specs.Lines.{Puts}
 use Rattle.datelines.specs.declared.Fed.{Fed}
 
--- `w` was printed into the output from the place `at` on, and `begun` is the line that is open then: the first bytes of `line`, where no more
--- than 33 are kept. (The bytes of `line` past those are free.) What was printed has `most` bytes at most, so that a caller knows what room
--- it takes.
-pub record Feeds (w begun : List ℕ) (most : ℕ) (out : List ℕ) (at : ℕ) (r : Fed) (line last : List ℕ) : Type 0 where
+-- `w` was printed into the output from the place `at` on; `begun` is the line that is open then, the first bytes of the lent ones, where no
+-- more than 33 are kept; and `bytes` are all that were lent. What was printed has `most` bytes at most, so that a caller knows what room it
+-- takes.
+pub record Feeds (w begun bytes : List ℕ) (most : ℕ) (out : List ℕ) (at : ℕ) (r : Fed) (line last : List ℕ) : Type 0 where
   pub puts : Puts out at w (r .next) last
   pub opens : take (r .kept) line ≡ begun
+  pub leaves : line ≡ bytes
   pub few : r .kept ≤ 33
   pub room : r .next ≤ at + most

@@ -93,6 +93,11 @@ unfoldable pub left : List ℕ → List ℕ → List ℕ
 left line [] = line
 left line (b ∷ s) = left (behind line b) s
 
+-- the lent bytes behind a chunk, where the open line is `line`: at each byte the open line is stored from their start on
+unfoldable pub lent : List ℕ → List ℕ → List ℕ → List ℕ
+lent bytes line [] = bytes
+lent bytes line (b ∷ s) = lent (sets bytes 0 (behind line b)) (behind line b) s
+
 -- what all chunks print, and then the end of the input; and the chunks as one input
 unfoldable pub answersOfChunks : List ℕ → List (List ℕ) → List ℕ
 answersOfChunks line [] = lastOf line

@@ -4,7 +4,8 @@ ghost use mathlib.Core.Path.{_≡_};
 ghost use Prim.Native.Nat.{_+_, _*_, _≤_, _<_};
 ghost use lib.IntN.{natAbs};
 ghost use lib.ListN.{length, take};
-ghost use Rattle.datelines.specs.Lines.{decimal, signedDecimal, isoOfBits, acceptedLine, refusedLine, lineOf, behind, prints, emitted, left, lastOf, IsTimeBits, Puts};
+ghost use lib.Seq.{sets};
+ghost use Rattle.datelines.specs.Lines.{decimal, signedDecimal, isoOfBits, acceptedLine, refusedLine, lineOf, behind, prints, emitted, left, lent, lastOf, IsTimeBits, Puts};
 ghost use Rattle.datelines.specs.Fed.{Feeds};
 use answer::Reply;
 
@@ -104,7 +105,7 @@ pub struct Fed {
 // Takes in a byte. No more than 33 bytes are kept of a line: no accepted text is longer than 32.
 fn take_in(b: u8, line: &mut [u8], kept: usize, output: &mut [u8], at: usize) -> Fed
     requires { ⌜ (length (now line) ≡ 33) × (kept ≤ 33) × (at + 64 ≤ length (now output)) ⌝ }
-    ensures { λ r. ⌜ Feeds (prints (take kept (now (line .entry))) b) (behind (take kept (now (line .entry))) b) 64 (now (output .entry)) at r (now (line .exit)) (now (output .exit)) ⌝ }
+    ensures { λ r. ⌜ Feeds (prints (take kept (now (line .entry))) b) (behind (take kept (now (line .entry))) b) (sets (now (line .entry)) 0 (behind (take kept (now (line .entry))) b)) 64 (now (output .entry)) at r (now (line .exit)) (now (output .exit)) ⌝ }
 {
     if b == b'\n' {
         let next = put_line(&line[..kept], output, at);
@@ -127,10 +128,10 @@ fn take_in(b: u8, line: &mut [u8], kept: usize, output: &mut [u8], at: usize) ->
 }
 
 // Takes in a chunk of the input: the answers of the lines that end in it go into the output from `at` on. The first `kept` bytes of `line`
-// are those of the line that was open before; then, those of the line that is open behind the chunk.
+// are those of the line that was open before; then, those of the line that is open behind the chunk. The others are as earlier lines left them.
 pub fn feed(chunk: &[u8], line: &mut [u8], kept: usize, output: &mut [u8], at: usize) -> Fed
     requires { ⌜ (length (now line) ≡ 33) × (kept ≤ 33) × (at + 64 * length (now chunk) ≤ length (now output)) ⌝ }
-    ensures { λ r. ⌜ Feeds (emitted (take kept (now (line .entry))) (now (chunk .entry))) (left (take kept (now (line .entry))) (now (chunk .entry))) (64 * length (now (chunk .entry))) (now (output .entry)) at r (now (line .exit)) (now (output .exit)) ⌝ }
+    ensures { λ r. ⌜ Feeds (emitted (take kept (now (line .entry))) (now (chunk .entry))) (left (take kept (now (line .entry))) (now (chunk .entry))) (lent (now (line .entry)) (take kept (now (line .entry))) (now (chunk .entry))) (64 * length (now (chunk .entry))) (now (output .entry)) at r (now (line .exit)) (now (output .exit)) ⌝ }
 {
     let mut n = kept;
     let mut next = at;

@@ -5,8 +5,8 @@ use Prim.Native.Nat.{_-_, _≤_}
 use native.Mathlib.Omega.{arith}
 use lib.ListN.{length, take}
 use denote.Ref.{now}
-use Rattle.datelines.specs.Lines.{emitted, left, Puts}
-use Rattle.datelines.proofs.Bytes.{start, start-open, all-puts, all-open, more-puts, more-open, puts-room, chunk-room}
+use Rattle.datelines.specs.Lines.{emitted, left, lent, Puts}
+use Rattle.datelines.proofs.Bytes.{start, start-open, start-bytes, all-puts, all-open, all-bytes, more-puts, more-open, more-bytes, puts-room, chunk-room}
 use Rattle.datelines.proofs.feed.Statement.{statement}
 use Rattle.datelines.proofs.feed.Tie as tie
 
@@ -14,6 +14,7 @@ abbrev Inv-loop : tie.InvT-loop
 Inv-loop chunk line₀ kept output₀ at n₀ next₀ i₀ line output n next i =
     (i ≤ length chunk) × (n ≤ 33) × (length line ≡ length line₀) × (length output ≡ length output₀)
     × Puts output₀ at (emitted (take kept line₀) (take i chunk)) next output × (take n line ≡ left (take kept line₀) (take i chunk))
+    × (line ≡ lent line₀ (take kept line₀) (take i chunk))
 
 abbrev μ-loop : tie.MeasureT-loop
 μ-loop chunk line₀ kept output₀ at n₀ next₀ i₀ line output n next i = length chunk - i
@@ -21,7 +22,9 @@ abbrev μ-loop : tie.MeasureT-loop
 loop-holds : tie.Need-loop-holds Inv-loop μ-loop
 loop-holds c =
     let s = c .before .before .before in
-    (omega arith, omega (arith, s .pre), refl, refl, start (now (s .args .chunk)) _ _ _, start-open (now (s .args .chunk)) _ (now (s .args .output)) (s .args .at))
+    let d = now (s .args .chunk) in
+    let o = now (s .args .output) in
+    (omega arith, omega (arith, s .pre), refl, refl, start d _ _ _, start-open d _ o (s .args .at), start-bytes d _ o (s .args .at) _)
 
 shared-slice-read-take-in : tie.Need-shared-slice-read-take-in Inv-loop μ-loop
 shared-slice-read-take-in c = omega arith
@@ -51,6 +54,7 @@ loop-again c =
       t .kept .1 .1 .1 .0 ∙ v .3,
       more-puts (now (s .args .chunk)) _ _ _ m (v .5) (v .4) (t .ensures .puts),
       more-open (now (s .args .chunk)) _ (now (s .args .output)) (s .args .at) m (v .5) (t .ensures .opens),
+      more-bytes (now (s .args .chunk)) _ (now (s .args .output)) (s .args .at) m _ (v .5) (v .6) (t .ensures .leaves),
     )
 
 same-length : tie.Need-same-length Inv-loop μ-loop
@@ -66,6 +70,7 @@ returns c =
     record {
       puts = all-puts (now (s .args .chunk)) _ _ _ (c .loop-test .left) (v .4);
       opens = all-open (now (s .args .chunk)) _ (now (s .args .output)) (s .args .at) (c .loop-test .left) (v .5);
+      leaves = all-bytes (now (s .args .chunk)) _ (now (s .args .output)) (s .args .at) _ (c .loop-test .left) (v .6);
       few = v .1;
       room = chunk-room (now (s .args .chunk)) _ _ _ (all-puts (now (s .args .chunk)) _ _ _ (c .loop-test .left) (v .4));
     }

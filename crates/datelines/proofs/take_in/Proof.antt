@@ -5,7 +5,7 @@ use native.Mathlib.Omega.{arith}
 use lib.Seq.{length-take-le}
 use denote.Ref.{now}
 use Rattle.datelines.proofs.Runs.{puts-as}
-use Rattle.datelines.proofs.Bytes.{ends, begins, keeps, drops, quiet, byte-room}
+use Rattle.datelines.proofs.Bytes.{ends, begins, begins-bytes, keeps, keeps-bytes, drops, drops-bytes, quiet, byte-room}
 use Rattle.datelines.proofs.take_in.Statement.{statement}
 use Rattle.datelines.proofs.take_in.Tie as tie
 
@@ -28,7 +28,7 @@ returns : tie.Need-returns
 returns c =
     let e = c .before .before .before .before .before .if1 .taken in
     let p = puts-as (c .before .before .put-line .ensures) (ends _ _ e) in
-    record { puts = p; opens = begins _ _ e; few = omega arith; room = byte-room _ _ p }
+    record { puts = p; opens = begins _ _ e; leaves = begins-bytes _ _ _ e; few = omega arith; room = byte-room _ _ p }
 
 slice-write-line : tie.Need-slice-write-line
 slice-write-line c = search needs
@@ -46,6 +46,7 @@ returns-2 c =
     record {
       puts = quiet l (s .args .kept) (s .args .b) (c .before .if1 .left) (s .pre .0) (s .pre .1);
       opens = keeps l (s .args .kept) (s .args .b) (c .before .if1 .left) (s .pre .0) (s .pre .1) (c .if2 .taken);
+      leaves = keeps-bytes l (s .args .kept) (s .args .b) (c .before .if1 .left) (s .pre .0) (s .pre .1) (c .if2 .taken);
       few = omega arith;
       room = omega arith;
     }
@@ -57,6 +58,7 @@ returns-3 c =
     record {
       puts = quiet l (s .args .kept) (s .args .b) (c .before .if1 .left) (s .pre .0) (s .pre .1);
       opens = drops l (s .args .kept) (s .args .b) (c .before .if1 .left) (s .pre .0) (s .pre .1) (c .if2 .left);
+      leaves = drops-bytes l (s .args .kept) (s .args .b) (c .before .if1 .left) (s .pre .0) (s .pre .1) (c .if2 .left);
       few = omega arith;
       room = omega arith;
     }
