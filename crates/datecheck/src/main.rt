@@ -1,7 +1,7 @@
 // Document 01's program: under the list (0, 0), one text a line in, out the number and, for 0, the time value and ISO text. It reads and
 // writes; what it writes is the work of `datelines`.
 ghost use mathlib.Core.Path.{_≡_};
-ghost use Prim.Native.Nat.{_+_, _≤_, _<_};
+ghost use Prim.Native.Nat.{_≤_};
 ghost use lib.ListN.{length};
 
 // Whether to go on, and how many bytes of the open line are kept.
@@ -10,84 +10,59 @@ struct Turn {
     kept: usize,
 }
 
-// Where a part of 512 bytes from `at` on ends, or a shorter one at the end.
-fn part_end(at: usize, length: usize) -> usize
-    requires { ⌜ at < length ⌝ }
-    ensures { λ r. ⌜ (at < r) × (r ≤ at + 512) × (r ≤ length) ⌝ }
-{
-    if length - at < 512 {
-        return length;
+// Writes answers out. Where that fails, a line on standard error says so.
+fn write(answers: &[u8]) -> bool {
+    let written = io::write_all(libc::STDOUT_FILENO, answers);
+    if !written {
+        io::write_all(libc::STDERR_FILENO, b"datecheck: cannot write to standard output\n");
     }
-    at + 512
+    written
 }
 
-// Writes out what a run of the input prints. It is taken in 512 bytes at a time, whose answers have room behind 32,768 bytes of output.
-fn print(input: &[u8], line: &mut [u8], kept: usize, output: &mut [u8]) -> Turn
-    requires { ⌜ (length (now line) ≡ 33) × (kept ≤ 33) × (length (now output) ≡ 65536) ⌝ }
+// Reads once, no more than `feed` can answer in the output, and writes the answers out. The input has ended where a read gives nothing: then
+// a last line without a newline is answered. A read that fails is not that end.
+fn take_turn(input: &mut [u8], line: &mut [u8], kept: usize, output: &mut [u8]) -> Turn
+    requires { ⌜ (length (now input) ≡ 4096) × (length (now line) ≡ 33) × (kept ≤ 33) × (length (now output) ≡ 262144) ⌝ }
     ensures { λ r. ⌜ r .kept ≤ 33 ⌝ }
 {
-    let mut n = kept;
-    let mut used: usize = 0;
-    let mut at: usize = 0;
-    while at < input.len() {
-        let end = part_end(at, input.len());
-        let f = datelines::feed(&input[at..end], line, n, output, used);
-        n = f.kept;
-        used = f.next;
-        at = end;
-        if 32768 < used {
-            if !io::write_all(1, &output[..used]) {
-                return Turn {
-                    more: false,
-                    kept: 0,
-                };
-            }
-            used = 0;
-        }
-    }
-    Turn {
-        more: io::write_all(1, &output[..used]),
-        kept: n,
-    }
-}
-
-// Reads once, and writes out what that prints. The input has ended where a read gives nothing.
-fn take_turn(line: &mut [u8], kept: usize) -> Turn
-    requires { ⌜ (length (now line) ≡ 33) × (kept ≤ 33) ⌝ }
-    ensures { λ r. ⌜ r .kept ≤ 33 ⌝ }
-{
-    let mut input = io::large_buffer();
-    let mut output = io::large_buffer();
-    let got = libc::read(0, &mut input);
-    let n = io::count(got, &input);
-    if n == 0 {
+    let got = libc::read(libc::STDIN_FILENO, input);
+    if got < 0 {
+        io::write_all(libc::STDERR_FILENO, b"datecheck: cannot read standard input\n");
         return Turn {
             more: false,
-            kept: kept,
+            kept: 0,
         };
     }
-    print(&input[..n], line, kept, &mut output)
-}
-
-// Writes out the answer to a last line without a newline.
-fn last(line: &[u8]) {
-    let mut output = [0u8; 64];
-    let n = datelines::finish(line, &mut output, 0);
-    io::write_all(1, &output[..n]);
+    let n = io::count(got, input);
+    if n == 0 {
+        let end = datelines::finish(&line[..kept], output, 0);
+        write(&output[..end]);
+        return Turn {
+            more: false,
+            kept: 0,
+        };
+    }
+    let f = datelines::feed(&input[..n], line, kept, output, 0);
+    let next = f.next;
+    Turn {
+        more: write(&output[..next]),
+        kept: f.kept,
+    }
 }
 
 // A proved loop has to end, and nothing says that an input does: it counts its turns down from a number that no run uses up.
 fn main() {
+    let mut input = io::buffer();
     let mut line = [0u8; 33];
+    let mut output = [0u8; 262144];
     let mut kept: usize = 0;
     let mut turns = u64::MAX;
     while turns > 0 {
-        let t = take_turn(&mut line, kept);
-        kept = t.kept;
+        let t = take_turn(&mut input, &mut line, kept, &mut output);
         if !t.more {
-            last(&line[..kept]);
             return;
         }
+        kept = t.kept;
         turns -= 1;
     }
 }

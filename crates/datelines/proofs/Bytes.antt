@@ -11,9 +11,9 @@ use lib.Dec.{ltb}
 use lib.ListN.{length, take, set, getD, take-append-drop}
 use lib.Seq.{length-take-le, take-suc-set, take-suc, take-all, sets, sets-eq}
 use Rattle.text.proofs.Runs.{sets-join}
-use Rattle.datelines.specs.Lines.{lineOf, behind, prints, emitted, left, lent, Puts}
+use Rattle.datelines.specs.Lines.{lineOf, lastOf, behind, prints, emitted, left, lent, Puts}
 use Rattle.datelines.proofs.Runs.{none, puts-as, puts-then}
-use Rattle.datelines.proofs.Streams.{left-snoc, lent-snoc, emitted-snoc, emitted-length, prints-length}
+use Rattle.datelines.proofs.Streams.{left-snoc, lent-snoc, emitted-snoc, emitted-length, prints-length, last-length}
 
 -- ---- a newline ends the line
 pub ends : (line : List ℕ) (b : ℕ) → b ≡ 10 → lineOf line ≡ prints line b
@@ -30,6 +30,10 @@ begins-bytes bytes line b e = ap (sets bytes 0) (begins line b e)
 -- what a byte prints has room in 64 bytes
 pub byte-room : (line : List ℕ) (b : ℕ) {out : List ℕ} {at n : ℕ} {last : List ℕ} → Puts out at (prints line b) n last → n ≤ at + 64
 byte-room line b p = omega (arith, p .next-is, prints-length line b)
+
+-- and so has what the end of the input prints
+pub last-room : (line : List ℕ) {out : List ℕ} {at n : ℕ} {last : List ℕ} → Puts out at (lastOf line) n last → n ≤ at + 64
+last-room line p = omega (arith, p .next-is, last-length line)
 
 -- ---- another byte is kept, or not
 module _ (line : List ℕ) (kept b : ℕ) (other : b ≡ 10 → ⊥) (long : length line ≡ 33) (few : kept ≤ 33) where

@@ -1,17 +1,19 @@
 -- `datecheck::main` is safe and ends: the measure is the number of turns that are left. Assumes nothing.
 use borrow.Author.Needs.{needs}
-use mathlib.Core.Path.{_≡_, sym}
+use mathlib.Core.Path.{_≡_}
 use Prim.Native.Nat.{_≤_}
 use lib.ListN.{length}
-use lib.Seq.{length-take-le}
 use Rattle.datecheck.proofs.main.Statement.{statement}
 use Rattle.datecheck.proofs.main.Tie as tie
 
 abbrev Inv-loop : tie.InvT-loop
-Inv-loop line₀ kept₀ turns₀ line kept turns = (kept ≤ 33) × (length line ≡ 33)
+Inv-loop input₀ line₀ output₀ kept₀ turns₀ input line output kept turns = (length input ≡ 4096) × (length line ≡ 33) × (length output ≡ 262144) × (kept ≤ 33)
 
 abbrev μ-loop : tie.MeasureT-loop
-μ-loop line₀ kept₀ turns₀ line kept turns = turns
+μ-loop input₀ line₀ output₀ kept₀ turns₀ input line output kept turns = turns
+
+buffer-requires : tie.Need-buffer-requires Inv-loop μ-loop
+buffer-requires c κs = search needs
 
 loop-holds : tie.Need-loop-holds Inv-loop μ-loop
 loop-holds c = search needs
@@ -19,17 +21,14 @@ loop-holds c = search needs
 slice-aggregate-take-turn : tie.Need-slice-aggregate-take-turn Inv-loop μ-loop
 slice-aggregate-take-turn c = search needs
 
+slice-aggregate-take-turn-2 : tie.Need-slice-aggregate-take-turn-2 Inv-loop μ-loop
+slice-aggregate-take-turn-2 c = search needs
+
+slice-aggregate-take-turn-3 : tie.Need-slice-aggregate-take-turn-3 Inv-loop μ-loop
+slice-aggregate-take-turn-3 c = search needs
+
 take-turn-requires : tie.Need-take-turn-requires Inv-loop μ-loop
 take-turn-requires c κs = search needs
-
-array-share-prefix-line : tie.Need-array-share-prefix-line Inv-loop μ-loop
-array-share-prefix-line c = search needs
-
-slice-aggregate-last : tie.Need-slice-aggregate-last Inv-loop μ-loop
-slice-aggregate-last c = sym (length-take-le _ _ (array-share-prefix-line (c .before)))
-
-last-requires : tie.Need-last-requires Inv-loop μ-loop
-last-requires c κs = search needs
 
 returns : tie.Need-returns Inv-loop μ-loop
 returns c = search needs
@@ -52,12 +51,12 @@ main-spec =
     (tie.spec
     Inv-loop
     μ-loop
+    buffer-requires
     loop-holds
     slice-aggregate-take-turn
+    slice-aggregate-take-turn-2
+    slice-aggregate-take-turn-3
     take-turn-requires
-    array-share-prefix-line
-    slice-aggregate-last
-    last-requires
     returns
     sub-turns
     loop-less
