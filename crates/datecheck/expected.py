@@ -48,7 +48,9 @@ def lines():
     for _ in range(180):
         text = accepted(rng)
         found += [text.encode(), changed(rng, text).encode()]
-    # texts of 32 bytes and the bytes past them; lines that run over the program's parts of 512 and reads of 65,536 bytes
+    # reads of 4,096 bytes that are full of short lines, whose answers are many times as long; no two of the lines are the same
+    found += [b"%04d" % year for year in range(0, 10000, 4)]
+    # texts of 32 bytes and the bytes past them; lines that run over one read of 4,096 bytes, and over many
     longest = b"+001970-01-01T00:00:00.000+00:00"
     found += [longest, longest + b"0", longest[:-1], b"1970-01-01T00:00:00.000Z" + b"0" * 9, b"-000000" + b"x" * 40, b"2023-02-31" + b" " * 500,
               b"1970" * 400, b"", b"", b"1970T00:00+00:00" + b"Z" * 55476, b"1971", b"+275760-09-13" + b"T" * 509]
