@@ -14,7 +14,10 @@ struct Turn {
 fn write(answers: &[u8]) -> bool {
     let written = io::write_all(libc::STDOUT_FILENO, answers);
     if !written {
-        io::write_all(libc::STDERR_FILENO, b"datecheck: cannot write to standard output\n");
+        io::write_all(
+            libc::STDERR_FILENO,
+            b"datecheck: cannot write to standard output\n",
+        );
     }
     written
 }
@@ -27,7 +30,10 @@ fn take_turn(input: &mut [u8], line: &mut [u8], kept: usize, output: &mut [u8]) 
 {
     let got = libc::read(libc::STDIN_FILENO, input);
     if got < 0 {
-        io::write_all(libc::STDERR_FILENO, b"datecheck: cannot read standard input\n");
+        io::write_all(
+            libc::STDERR_FILENO,
+            b"datecheck: cannot read standard input\n",
+        );
         return Turn {
             more: false,
             kept: 0,

@@ -1,4 +1,4 @@
--- What one byte of the input prints and leaves open, by cases; and the chunk so far, with a byte more. Assumes nothing.
+-- What one byte of the input prints and leaves open, and the lent bytes then, by cases; and the chunk so far, with a byte more. Assumes nothing.
 use mathlib.Core.Path.{_≡_, refl, sym, ap, ap₂, _∙_, subst}
 use mathlib.Core.Bool.{cond}
 use mathlib.Core.List.{List, [], _∷_, _++_}
