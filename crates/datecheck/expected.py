@@ -53,11 +53,13 @@ def lines():
     # texts of 32 bytes and the bytes past them; lines that run over one read of 4,096 bytes, and over many
     longest = b"+001970-01-01T00:00:00.000+00:00"
     found += [longest, longest + b"0", longest[:-1], b"1970-01-01T00:00:00.000Z" + b"0" * 9, b"-000000" + b"x" * 40, b"2023-02-31" + b" " * 500,
-              b"1970" * 400, b"", b"", b"1970T00:00+00:00" + b"Z" * 55476, b"1971", b"+275760-09-13" + b"T" * 509]
+              b"1970" * 400, b"", b"", b"1970T00:00+00:00" + b"Z" * 54164, b"1971", b"+275760-09-13" + b"T" * 509]
     for _ in range(60):
         found.append(accepted(rng).encode())
-    # the last line has no newline
-    return b"\n".join(found + [b"+275760-09-13"])
+    # the last line has no newline, and the last read gives one byte of it
+    found = b"\n".join(found + [b"+275760-09-13"])
+    assert len(found) % 4096 == 1
+    return found
 
 
 def due(program, text):
