@@ -1,13 +1,11 @@
 -- What one byte of the input prints and leaves open, and the lent bytes then, by cases; and the chunk so far, with a byte more. Assumes nothing.
 use mathlib.Core.Path.{_≡_, refl, sym, ap, ap₂, _∙_, subst}
-use mathlib.Core.Bool.{cond}
 use mathlib.Core.List.{List, [], _∷_, _++_}
 use Prim.Native.Nat.{ℕ, _+_, _*_, _≤_, _<_}
 use native.Mathlib.Omega.{arith}
 use native.Mathlib.Nat.{zero-add}
 use native.Mathlib.Numerals.{add-one}
 use borrow.Author.Tests.{eq-eqb, ne-eqb, lt-ltb, le-ltb}
-use lib.Dec.{ltb}
 use lib.ListN.{length, take, set, getD, take-append-drop}
 use lib.Seq.{length-take-le, take-suc-set, take-suc, take-all, sets, sets-eq}
 use Rattle.text.proofs.Runs.{sets-join}

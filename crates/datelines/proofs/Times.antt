@@ -1,7 +1,6 @@
 -- Bits of a time of the range: the whole number that they stand for, the ISO writer's outcome on them, and that the reader answers no others.
 -- Assumes nothing.
 use mathlib.Core.Path.{_≡_, sym, ap, ap₂, _∙_}
-use mathlib.Core.Bool.{cond}
 use mathlib.Core.List.{List, _++_}
 use Prim.Native.Nat.{ℕ, _^_, _≤_, _<_}
 use native.Mathlib.Omega.{arith}
