@@ -7,13 +7,12 @@ use native.Mathlib.Nat.{le-trans}
 use native.Mathlib.Omega.{arith}
 use lib.Dec.{T, lit≤}
 use lib.IntN.{ℤ, pos}
-use lib.Ieee.{Float, nan, binary64, ofBits, toBits, ofInt, eq, add, isNan, fits}
+use lib.Ieee.{Float, nan, binary64, ofBits, toBits, ofInt, eq, isNan, fits}
 use lib.Ieee.Bits.{ofBits-toBits, ofBits-fits, is-false}
-use lib.Ieee.Fits.{ofInt-fits, add-fits}
+use lib.Ieee.Fits.{ofInt-fits}
 use Rattle.ecma262.specs.Date.{timeRange, InRange}
 use Rattle.float.specs.Whole.{IsWhole, truncZ, plain}
 use Rattle.float.proofs.Whole.{ofInt-whole, plain-nonzero, int-unique}
-use Rattle.float.proofs.Casts.{plus-zero}
 use Rattle.float.proofs.Within.{within-holds, within-is}
 use Rattle.float.proofs.Rounding.{whole-finite, truncZ-whole}
 use Rattle.float.proofs.Order.{eq-yes, eq-no}
@@ -60,14 +59,6 @@ unsigned-taken x f w = go (eq x (ofInt binary64 (pos 0))) refl
     go : (b : Bool) → eq x (ofInt binary64 (pos 0)) ≡ b → Taken x (cond b (ofInt binary64 (pos 0)) x)
     go true e = taken x (ofInt binary64 (pos 0)) (subst (IsWhole x) (eq-yes (w .whole) zero-is e) (w .whole)) (lit≤ tt) zero-is (ofInt-fits binary64 (pos 0)) zero-taken
     go false e = taken x x (w .whole) (w .range) (w .whole) f (plain-nonzero (w .whole) (eq-no (w .whole) zero-is e))
-
--- which is what a sum with 0.0 gives
-pub plus-zero-taken : (x : Float) → T (fits binary64 x) → isTime x ≡ true → add binary64 x (ofBits binary64 0) ≡ unsigned x
-plus-zero-taken x f t =
-    let w = time-is x f t in
-    let k = unsigned-taken x f w in
-    let p = plus-zero (w .whole) (le-trans (w .range) (lit≤ tt)) in
-    int-unique (add-fits binary64 x (ofBits binary64 0)) (p .0) (p .1) (le-trans (w .range) (lit≤ tt)) ∙ ap (ofInt binary64) (truncZ-whole (k .value)) ∙ sym (k .number)
 
 -- The law: the three answers, and when each is given
 pub data Judged (bits : ℕ) : Type 0 where

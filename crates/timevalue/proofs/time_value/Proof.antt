@@ -1,23 +1,24 @@
 -- `timevalue::time_value` meets its contract: each way through it is a case of `judged`, at the value of the bits. Assumes nothing.
 use borrow.Author.Needs.{needs}
-use mathlib.Core.Path.{_≡_, sym, ap, _∙_, subst}
+use mathlib.Core.Path.{_≡_, sym, ap, _∙_}
 use mathlib.Core.Bool.{Bool, true, false}
-use lib.Dec.{T}
-use lib.Ieee.{Float, binary64, add, fits, ne, ofBits, ofInt}
-use lib.Ieee.Bits.{ofBits-fits}
+use lib.IntN.{pos}
+use lib.Ieee.{Float, binary64, eq, ne, ofBits, ofInt}
 use Rattle.float.proofs.Special.{nan-test}
 use Rattle.timevalue.specs.declared.TimeValue.the-variants.{Time, Nan, Refused}
 use Rattle.timevalue.specs.TimeValue.{isTime, judged, timeValueOf}
-use Rattle.timevalue.proofs.Laws.{plus-zero-taken}
 use Rattle.timevalue.proofs.time_value.Statement.{statement}
 use Rattle.timevalue.proofs.time_value.Tie as tie
 
--- ---- the three answers, by the two tests, of the value x of some bits
+-- ---- the answers, by the tests, of the value x of some bits
 judged-nan : (x : Float) → ne x x ≡ true → Nan ≡ judged x
 judged-nan x n = rw (sym (nan-test x) ∙ n)
 
-judged-time : (x : Float) → T (fits binary64 x) → ne x x ≡ false → isTime x ≡ true → Time (add binary64 x (ofBits binary64 0)) ≡ judged x
-judged-time x f n e = rw (sym (nan-test x) ∙ n, e) (ap Time (plus-zero-taken x f e))
+judged-zero : (x : Float) → ne x x ≡ false → isTime x ≡ true → eq x (ofInt binary64 (pos 0)) ≡ true → Time (ofInt binary64 (pos 0)) ≡ judged x
+judged-zero x n e z = rw (sym (nan-test x) ∙ n, e, z)
+
+judged-time : (x : Float) → ne x x ≡ false → isTime x ≡ true → eq x (ofInt binary64 (pos 0)) ≡ false → Time x ≡ judged x
+judged-time x n e z = rw (sym (nan-test x) ∙ n, e, z)
 
 judged-other : (x : Float) → ne x x ≡ false → isTime x ≡ false → Refused ≡ judged x
 judged-other x n e = rw (sym (nan-test x) ∙ n, e)
@@ -38,18 +39,24 @@ is-whole-within-requires : tie.Need-is-whole-within-requires
 is-whole-within-requires c κs = search needs
 
 returns-2 : tie.Need-returns-2
-unfolding timeValueOf
+unfolding timeValueOf ofBits ofInt
 returns-2 c =
-    let n = c .before .before in
-    let b = n .before in
-    let held : T (fits binary64 (b .of-bits .result)) = subst (λ (x : Float). T (fits binary64 x)) (sym (b .of-bits .ensures)) (ofBits-fits binary64 (b .before .args .bits)) in
-    judged-time (b .of-bits .result) held (n .if1 .left) (test (c .before) (c .if2 .taken)) ∙ ap judged (b .of-bits .ensures)
+    let t = c .before in
+    let n = t .before .before in
+    judged-zero (n .before .of-bits .result) (n .if1 .left) (test (t .before) (t .if2 .taken)) (c .if3 .taken) ∙ ap judged (n .before .of-bits .ensures)
 
 returns-3 : tie.Need-returns-3
-unfolding timeValueOf
+unfolding timeValueOf ofBits ofInt
 returns-3 c =
+    let t = c .before in
+    let n = t .before .before in
+    judged-time (n .before .of-bits .result) (n .if1 .left) (test (t .before) (t .if2 .taken)) (c .if3 .left) ∙ ap judged (n .before .of-bits .ensures)
+
+returns-4 : tie.Need-returns-4
+unfolding timeValueOf
+returns-4 c =
     let n = c .before .before in
     judged-other (n .before .of-bits .result) (n .if1 .left) (test (c .before) (c .if2 .left)) ∙ ap judged (n .before .of-bits .ensures)
 
 pub time-value-spec : {M : Type 1} → statement M
-time-value-spec = tie.close (tie.spec of-bits-requires returns is-whole-within-requires returns-2 returns-3)
+time-value-spec = tie.close (tie.spec of-bits-requires returns is-whole-within-requires returns-2 returns-3 returns-4)
