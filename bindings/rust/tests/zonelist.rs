@@ -1,9 +1,15 @@
 //! The tool, as it is called: a list made from a file, shown, and held against a poster.
 
-use std::process::{Command, Output};
+use std::fs::OpenOptions;
+use std::process::{Command, Output, Stdio};
 
 fn zonelist(words: &[&str]) -> Output {
-    Command::new(env!("CARGO_BIN_EXE_zonelist")).args(words).output().expect("the tool runs")
+    zonelist_into(Stdio::piped(), words)
+}
+
+fn zonelist_into(stdout: impl Into<Stdio>, words: &[&str]) -> Output {
+    let tool = env!("CARGO_BIN_EXE_zonelist");
+    Command::new(tool).args(words).stdout(stdout).output().expect("the tool runs")
 }
 
 fn text(bytes: &[u8]) -> &str {
@@ -83,4 +89,22 @@ fn faults_are_said_in_a_line() {
         assert!(text(&answer.stderr).contains(fault), "{words:?}: {}", text(&answer.stderr));
     }
     assert!(text(&zonelist(&[]).stderr).starts_with("zonelist make"));
+}
+
+/// A list that is not written is a fault, be it ever so short. `/dev/full` takes no byte.
+#[test]
+fn a_full_disk_is_a_fault() {
+    let zone = central_europe("full.tzif");
+    let list = format!("{zone}.list");
+    std::fs::write(&list, zonelist(&["make", &zone, "2024", "2024"]).stdout).unwrap();
+    for words in [
+        &["make", &zone, "2024", "2024"][..],
+        &["show", &list],
+        &["week", &list, "2024-03-28T20:15"],
+    ] {
+        let full = OpenOptions::new().write(true).open("/dev/full").unwrap();
+        let answer = zonelist_into(full, words);
+        assert_eq!(answer.status.code(), Some(1), "{words:?}");
+        assert!(text(&answer.stderr).starts_with("standard output: "), "{words:?}");
+    }
 }

@@ -12,7 +12,8 @@ zonelist make ZONE FROM TO > LIST   the list of a zone for the years FROM to TO.
 zonelist show LIST                  the records of a list, with the local time from which each holds
 zonelist week LIST START...         for each start, as 2024-03-28T20:15, the same local time on seven days: the day,
                                     what the unit reads it as, and what it writes in local time. A line ends in !!
-                                    where the two clocks differ: at that time the clock is put forward or back";
+                                    where the two clocks differ: the clock is put forward or back within so many hours
+                                    as the zone is off UTC";
 
 type Fault = Box<dyn std::error::Error>;
 
@@ -25,7 +26,7 @@ fn main() -> ExitCode {
         ["week", list, ref starts @ ..] if !starts.is_empty() => week(list, starts),
         _ => Err(USAGE.into()),
     };
-    match done {
+    match done.and_then(|output| put(&output)) {
         Ok(()) => ExitCode::SUCCESS,
         Err(fault) => {
             eprintln!("{fault}");
@@ -34,13 +35,20 @@ fn main() -> ExitCode {
     }
 }
 
-fn make(zone: &str, from: &str, to: &str) -> Result<(), Fault> {
+/// To standard output, all of it: what is left in its buffer at the end is lost without a word.
+fn put(output: &[u8]) -> Result<(), Fault> {
+    let mut stdout = io::stdout().lock();
+    let done = stdout.write_all(output).and_then(|()| stdout.flush());
+    Ok(done.map_err(|error| format!("standard output: {error}"))?)
+}
+
+fn make(zone: &str, from: &str, to: &str) -> Result<Vec<u8>, Fault> {
     let year = |text: &str| text.parse::<i64>().map_err(|_| format!("not a year: {text}"));
     let years = year(from)?..=year(to)?;
     let file = [PathBuf::from(zone), zoneinfo().join(zone)].into_iter().find(|path| path.is_file());
     let file = file.ok_or_else(|| format!("no such zone or file: {zone}"))?;
     let list = ZoneList::from_tzif(&fs::read(file)?, years)?;
-    Ok(io::stdout().write_all(list.as_bytes())?)
+    Ok(list.as_bytes().into())
 }
 
 fn zoneinfo() -> PathBuf {
@@ -52,8 +60,8 @@ fn list_of(file: &str) -> Result<ZoneList, Fault> {
     Ok(ZoneList::from_bytes(&bytes).map_err(|refusal| format!("{file}: {refusal}"))?)
 }
 
-fn show(list: &str) -> Result<(), Fault> {
-    let mut out = io::stdout().lock();
+fn show(list: &str) -> Result<Vec<u8>, Fault> {
+    let mut out = Vec::new();
     for record in list_of(list)?.records() {
         // A record alone, as a list of its own, writes by its own offset.
         let alone = ZoneList::from_records(&[record])?;
@@ -63,7 +71,7 @@ fn show(list: &str) -> Result<(), Fault> {
             zovattha::to_string(&alone, from).unwrap_or_else(|_| "outside the range".into());
         writeln!(out, "{:>12} {:>6}  {local}", record.second, record.offset)?;
     }
-    Ok(())
+    Ok(out)
 }
 
 const MS_PER_DAY: f64 = 86_400_000.0;
@@ -73,16 +81,16 @@ fn clock(local: &str) -> &str {
     local.split_once(" GMT").map_or(local, |(clock, _)| clock)
 }
 
-fn week(list: &str, starts: &[&str]) -> Result<(), Fault> {
+fn week(list: &str, starts: &[&str]) -> Result<Vec<u8>, Fault> {
     let list = list_of(list)?;
-    let mut out = io::stdout().lock();
+    let mut out = Vec::new();
     for start in starts {
         let first = clock_of(start).map_err(|fault| format!("{start}: {fault}"))?;
         for day in 0..7 {
             writeln!(out, "{}", line(&list, first + f64::from(day) * MS_PER_DAY)?)?;
         }
     }
-    Ok(())
+    Ok(out)
 }
 
 /// The time that a start's clock would show in UTC. A start that names a zone of its own, or a date
