@@ -14,7 +14,19 @@
  *
  *   - A pointer lent with a length is good for that many bytes for the whole call. It may be null where the length is 0.
  *   - `out` overlaps neither `zone` nor `text` nor `record`: to write a text again in place, copy it first.
- *   - Nothing else: any bits and any bytes get an answer.
+ *   - The thread's floating-point environment: exceptions are masked, as they are when a program starts (an unmasked one can stop a call),
+ *     and for the builder and the setters the rounding mode is the default, to nearest. Denormals-are-zero and flush-to-zero, which
+ *     -ffast-math and codecs set, change no answer; nor does a rounding mode one of the reader, of rewriting or of a writer (tests/c).
+ *     A call leaves the modes as they are and may raise status flags.
+ *   - Nothing of the content: any bits and any bytes get an answer.
+ *
+ * Local times near a change of offset
+ *
+ *   As in the original, a local time is looked up in the list as if it were an instant. So within as many hours of a change as the zone is
+ *   off UTC (before it where local time is ahead of UTC, after it where it is behind) the offset of the wrong side can be taken: mostly
+ *   an hour off. Under Sydney's list 2025-04-05T20:15 is 10:15Z, and the standard's answer is 09:15Z; in New York it reaches 4 or 5 hours,
+ *   in Auckland 13. It concerns the reader, rewriting, the local builder and the local setters, and the suffix of the local writer. A text
+ *   with Z or an offset, a date alone and the UTC calls are free of it. docs/DIFFERENCES.md says more.
  *
  * A refused call answers the number of its fault, ZOVATTHA_NAN and length 0, and leaves every lent byte as it was.
  * Where several faults are there, the first one in the order of the numbers below decides, but for a text, which is read
@@ -54,8 +66,8 @@ enum zovattha_number {
 };
 
 /*
- * The reader: the instant that a text denotes, as a time value; length 0. A date alone is UTC; a time without zone is local by the list.
- * Refusals 1, 5, 6, 7, 8, 9.
+ * The reader: the instant that a text denotes, as a time value; length 0. A date alone is UTC; a time without zone is local by the list,
+ * near a change of offset by the rule above, which can be an hour off. Refusals 1, 5, 6, 7, 8, 9.
  */
 zovattha_answer zovattha_read(const uint8_t *zone, size_t zone_len, const uint8_t *text, size_t text_len);
 
@@ -76,7 +88,7 @@ zovattha_answer zovattha_to_iso_string(uint64_t time, uint8_t *out, size_t out_l
 /* Thu, 29 Feb 2024 12:00:00 GMT. 29 to 32 bytes, or 12. Refusals 2, 11. */
 zovattha_answer zovattha_to_utc_string(uint64_t time, uint8_t *out, size_t out_len);
 
-/* Thu Feb 29 2024 14:00:00 GMT+0200. 33 to 36 bytes, or 12. Refusals 1, 2, 11. */
+/* Thu Feb 29 2024 14:00:00 GMT+0200; the suffix, not the clock, is by the rule above. 33 to 36 bytes, or 12. Refusals 1, 2, 11. */
 zovattha_answer zovattha_to_string(const uint8_t *zone, size_t zone_len, uint64_t time, uint8_t *out, size_t out_len);
 
 /*
@@ -84,14 +96,15 @@ zovattha_answer zovattha_to_string(const uint8_t *zone, size_t zone_len, uint64_
  * stands, lowest bit first. Each answers a time value (ZOVATTHA_NAN where the result is out of range) and length 0.
  *
  * Builder's bits 0 to 6: year, month (January is 0), date, hour, minute, second, millisecond. Absent: month 0, date 1, others 0, but
- * year NaN. Years 0 to 99 are 1900 to 1999. Refusals 3, 4; the local one 1, 3, 4.
+ * year NaN. Years 0 to 99 are 1900 to 1999. Refusals 3, 4; the local one 1, 3, 4. It goes from local time to UTC by the rule above.
  */
 zovattha_answer zovattha_build_utc(const uint8_t *record, size_t record_len);
 zovattha_answer zovattha_build_local(const uint8_t *zone, size_t zone_len, const uint8_t *record, size_t record_len);
 
 /*
  * Setters: bit 0 is the first argument and so on. An absent first argument is NaN; any other keeps its present value. NaN gives NaN, but
- * full_year starts from 0. Refusals 2, 3, 4; the local ones 1, 2, 3, 4.
+ * full_year starts from 0. Refusals 2, 3, 4; the local ones 1, 2, 3, 4. These go back from local time to UTC by the rule above, so that
+ * near a change of offset a time can move by an hour though its fields are set to what they are.
  */
 zovattha_answer zovattha_set_utc_milliseconds(uint64_t time, const uint8_t *record, size_t record_len); /* ms */
 zovattha_answer zovattha_set_utc_seconds(uint64_t time, const uint8_t *record, size_t record_len); /* sec, ms */

@@ -89,6 +89,10 @@ static void check_changes(void) {
     CHECK(gave(local(), 1729989000000));
     RECORD(YEAR, 1969);
     CHECK(gave(local(), -31536000000 - 3600000));
+    /* 20:15 on the evening before Sydney's change: 10:15Z, where the standard has 09:15Z. */
+    SYDNEY;
+    RECORD(YEAR | MONTH | DATE | HOUR | MINUTE, 2025, 3, 5, 20, 15);
+    CHECK(gave(local(), 1743848100000));
 }
 
 /* 3 and 4, and locally 1 before them. */

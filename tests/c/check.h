@@ -102,6 +102,11 @@ static inline void lend_list(const struct record *records, size_t count) {
 
 #define LIST(...) lend_list((const struct record[]){__VA_ARGS__}, sizeof((const struct record[]){__VA_ARGS__}) / sizeof(struct record))
 
+/* Changes of 2025: Sydney's clock goes back at 2025-04-05T16:00Z, Auckland's at 14:00Z, New York's forward at 2025-03-09T07:00Z. */
+#define SYDNEY LIST({1735603200, 39600}, {1743868800, 36000})
+#define AUCKLAND LIST({1735603200, 46800}, {1743861600, 43200})
+#define NEW_YORK LIST({1735603200, -18000}, {1741503600, -14400}, {1762063200, -18000})
+
 /* A field record: its map, and a field for each bit that stands. */
 static inline void lend_record(uint8_t map, const double *fields) {
     uint8_t bytes[1 + 8 * 8] = {map};

@@ -74,6 +74,23 @@ static void check_local(void) {
     CHECK(gave(reading("2024-10-27T01:30"), 1729989000000));
 }
 
+/* As far from a change as the zone is off UTC, the other side's offset is taken: where that begins and ends, and the standard's answer. */
+static void check_reach(void) {
+    SYDNEY;
+    CHECK(gave(reading("2025-04-05T15:59:59"), 1743829199000));
+    CHECK(gave(reading("2025-04-05T16:00"), 1743832800000)); /* 06:00Z; standard: 05:00Z */
+    CHECK(gave(reading("2025-04-05T20:15"), 1743848100000)); /* 10:15Z; standard: 09:15Z */
+    CHECK(gave(reading("2025-04-05T20:15+11:00"), 1743844500000));
+    AUCKLAND;
+    CHECK(gave(reading("2025-04-05T13:59:59"), 1743814799000));
+    CHECK(gave(reading("2025-04-05T14:00"), 1743818400000)); /* 02:00Z; standard: 01:00Z */
+    NEW_YORK;
+    CHECK(gave(reading("2025-03-09T06:59"), 1741521540000)); /* 11:59Z; standard: 10:59Z */
+    CHECK(gave(reading("2025-03-09T07:00"), 1741518000000));
+    CHECK(gave(reading("2025-11-02T05:59"), 1762077540000)); /* 09:59Z; standard: 10:59Z */
+    CHECK(gave(reading("2025-11-02T06:00"), 1762081200000));
+}
+
 /* 1: with the text wrong too, which would be 5. */
 static void check_lists(void) {
     static struct record many[1025];
@@ -200,6 +217,7 @@ static void check_rewriting_refusals(void) {
 int main(void) {
     check_forms();
     check_local();
+    check_reach();
     check_lists();
     check_ends();
     check_wrong_texts();

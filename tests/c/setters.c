@@ -147,6 +147,10 @@ static void check_changes(void) {
     /* 12:00 on 31 January becomes 12:00 on 31 July. */
     RECORD(1, 6);
     CHECK(gave(local(MONTH, 1706698800000), 1722420000000));
+    /* 20:15 on the evening before Sydney's change, set to the millisecond that it has, becomes 21:15. */
+    SYDNEY;
+    RECORD(1, 0);
+    CHECK(gave(local(MILLISECONDS, 1743844500000), 1743848100000));
 }
 
 /* 2, 3 and 4, locally 1 before them; each with all that come later. */

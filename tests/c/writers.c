@@ -75,6 +75,9 @@ static void check_local(void) {
     CHECK(wrote(local(0, 33), 0, "Thu Jan 01 1970 02:00:00 GMT+0200"));
     LIST({0, -30});
     CHECK(wrote(local(0, SIZE), 0, "Wed Dec 31 1969 23:59:30 GMT-0000"));
+    /* The clock is the instant's, the suffix the one at the local time. */
+    SYDNEY;
+    CHECK(wrote(local(1743844500000, SIZE), 1743844500000, "Sat Apr 05 2025 20:15:00 GMT+1000"));
     LIST({0, 86399});
     CHECK(wrote(local(LAST, SIZE), LAST, "Sat Sep 13 275760 23:59:59 GMT+2359"));
     LIST({0, -86399});
