@@ -10,7 +10,8 @@ pub const LAST_TIME: f64 = 8_640_000_000_000_000.0;
 /// An output of this many bytes takes every text.
 pub const LONGEST_TEXT: usize = 36;
 
-/// The instant that a text denotes. A date alone is UTC; a time without zone is local by the list.
+/// The instant that a text denotes. A date alone is UTC; a time without zone is local by the list, and
+/// can be an hour off [near a change of offset](crate#local-times-near-a-change-of-offset).
 ///
 /// ```
 /// use zovattha::{Refusal, ZoneList, read};
@@ -132,7 +133,8 @@ pub fn write_string<'a>(zone: &ZoneList, time: f64, out: &'a mut [u8]) -> Result
     answer.checked().map(|answer| written(out, answer))
 }
 
-/// The local text. Its suffix is the offset that the list gives at the local time, as in Boa.
+/// The local text. Its suffix is the offset that the list gives at the local time, as in Boa, and not
+/// always the clock's [near a change of offset](crate#local-times-near-a-change-of-offset).
 ///
 /// ```
 /// let zone = zovattha::ZoneList::utc();
@@ -172,7 +174,8 @@ pub fn build_utc(fields: &Fields) -> f64 {
     built(unsafe { ffi::zovattha_build_utc(record.as_ptr(), record.len()) })
 }
 
-/// The time of local fields; NaN where it is outside the range or a field is not finite.
+/// The time of local fields; NaN where it is outside the range or a field is not finite. It can be an
+/// hour off [near a change of offset](crate#local-times-near-a-change-of-offset).
 ///
 /// ```
 /// use zovattha::{Fields, ZoneList, ZoneRecord, build_local};
@@ -204,6 +207,8 @@ macro_rules! setters {
         }
 
         #[doc = concat!("The time with its local ", $what, " set; NaN where that is outside the range.")]
+        /// It can be an hour off
+        /// [near a change of offset](crate#local-times-near-a-change-of-offset).
         ///
         $(#[$example])*
         /// # Errors

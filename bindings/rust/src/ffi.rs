@@ -5,6 +5,11 @@
 //! Every function takes any bits and any bytes. What a caller keeps: a pointer lent with a length is
 //! good for that many bytes, and `out` overlaps no other run. A zone list is 12 bytes a record: a
 //! second (`i64`), then an offset in seconds (`i32`), low byte first.
+//!
+//! The thread's floating-point environment is the caller's too: exceptions are masked, and for the
+//! builder and the setters the rounding mode is the default, to nearest. Denormals-are-zero and
+//! flush-to-zero change no answer of any function, and a rounding mode none of the reader, of
+//! rewriting or of a writer; tests/c/environment.c tests both.
 
 /// An answer: 0 or the number of the refusal, the bits of a time value, how many bytes were written.
 #[repr(C)]
