@@ -2,6 +2,7 @@
 //! run must catch each; a stand-in that answers by the right sides takes the archive's place.
 
 use crate::bite_answers::ANSWERS;
+use crate::bite_makers::MAKERS;
 use crate::bite_sides::SIDES;
 use crate::case::Case;
 use crate::expected::{RIGHT, Sides, expected};
@@ -51,7 +52,7 @@ impl Subject for StandIn {
 }
 
 /// The family that catches a bite first, with the line that showed it.
-fn caught(bite: &Bite, seed: u64) -> Option<(&'static str, String)> {
+pub fn caught(bite: &Bite, seed: u64) -> Option<(&'static str, String)> {
     let subject = StandIn { wrong: bite.wrong };
     let sides = match bite.wrong {
         Wrong::Sides(sides) => sides,
@@ -72,7 +73,7 @@ pub fn all(seed: u64, threads: usize) -> bool {
         println!("the right stand-in fails in {family}: {line}");
         return false;
     }
-    let bites: Vec<Bite> = [ANSWERS, SIDES].concat();
+    let bites: Vec<Bite> = [ANSWERS, MAKERS, SIDES].concat();
     let (next, missed) = (AtomicUsize::new(0), AtomicUsize::new(0));
     std::thread::scope(|scope| {
         for _ in 0..threads {

@@ -4,6 +4,7 @@
 
 mod bite;
 mod bite_answers;
+mod bite_makers;
 mod bite_sides;
 mod case;
 mod expected;

@@ -35,7 +35,7 @@ pub fn build(list: Option<&[Record]>, fields: &Fields) -> Option<u64> {
 }
 
 /// Where a setter's arguments go among year, month, date, hour, minute, second, millisecond.
-fn slots(setter: Setter) -> std::ops::Range<usize> {
+pub fn slots(setter: Setter) -> std::ops::Range<usize> {
     match setter {
         Setter::Milliseconds => 6..7,
         Setter::Seconds => 5..7,

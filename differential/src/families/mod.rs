@@ -4,6 +4,7 @@ use crate::run::Run;
 
 mod build;
 mod calendar;
+mod cancel;
 mod digits;
 mod facts;
 mod floats;
@@ -31,6 +32,7 @@ pub fn all() -> Vec<Family> {
         rewrite::FAMILIES,
         set::FAMILIES,
         build::FAMILIES,
+        cancel::FAMILIES,
         write::FAMILIES,
         zone::FAMILIES,
         calendar::FAMILIES,
