@@ -1,7 +1,7 @@
 -- `time_clip` is TimeClip: of every whole time it is the f64 of what TimeClip gives, and of every f64 it is a time value, so NaN or a whole number in the
 -- range and never -0. Assumes nothing.
 use mathlib.Core.Path.{_≡_, refl, sym, ap, _∙_, subst}
-use mathlib.Core.Bool.{Bool, true, false, cond}
+use mathlib.Core.Bool.{Bool, true, false, not, cond, _&&_, false≢true}
 use Prim.Native.Nat.{zero, suc, _^_, _≤_, _<_}
 use native.Mathlib.Nat.{div-one, zero-lt-suc}
 use native.Mathlib.Omega.{arith}
@@ -16,8 +16,9 @@ use Rattle.integers.proofs.Int.{ints, by-test}
 use Rattle.integers.proofs.Machine.{true-T}
 use Rattle.ecma262.proofs.Range.{clip-inside, clip-outside}
 use Rattle.float.specs.Whole.{IsWhole, truncZ}
-use Rattle.float.specs.Rounding.{truncF, absF}
-use Rattle.float.proofs.Whole.{ofInt-whole, round-is-whole, unique}
+use Rattle.float.specs.Rounding.{truncF, absF, isWholeWithin}
+use Rattle.float.proofs.Within.{within-is}
+use Rattle.float.proofs.Whole.{ofInt-whole, round-is-whole, unique, plain-nonzero, int-unique}
 use Rattle.float.proofs.Rounding.{wholeNumber, trunc-value, trunc-whole, trunc-fits, abs-whole, whole-finite}
 use Rattle.float.proofs.Order.{lt-holds, lt-fails, eq-yes, eq-no, trunc-bounded}
 use Rattle.calendar.specs.Calendar.{num}
@@ -81,3 +82,14 @@ module _ {t : Float} {z : ℤ} (w : IsWhole t z) where
   clip-exact = by-test (leb (natAbs z) timeRange)
       (λ y. let r : InRange z = leb→le (natAbs z) timeRange y in clip-inside-whole r ∙ ap timeValue (sym (clip-inside z r)))
       (λ n. let r : timeRange < natAbs z = nleb→lt (natAbs z) timeRange n in clip-outside-whole r ∙ ap timeValue (sym (clip-outside z r)))
+
+-- a whole time of the range that is not 0 is its own value
+pub clip-own : (t : Float) → T (fits binary64 t) → (not (eq t (num 0)) && isWholeWithin (num 8_640_000_000_000_000) t) ≡ true → t ≡ timeClipF t
+clip-own t f e =
+    let w = within-is 8640000000000000 (lit≤ tt) t f (both (eq t (num 0)) (isWholeWithin (num 8640000000000000) t) e .1) in
+    let n = eq-no (w .whole) (num-whole 0 (lit≤ tt)) (both (eq t (num 0)) (isWholeWithin (num 8640000000000000) t) e .0) in
+    int-unique f (w .whole) (plain-nonzero (w .whole) n) (omega (arith, w .size)) ∙ sym (clip-inside-whole (w .whole) (w .size))
+  where
+    both : (a b : Bool) → (not a && b) ≡ true → (a ≡ false) × (b ≡ true)
+    both true b e = absurd (false≢true e)
+    both false b e = (refl, e)

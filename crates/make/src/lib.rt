@@ -1,9 +1,11 @@
 // The makers of builtins/date/utils.rs on f64, function by function under its names. Each contract is the original's operations in its
 // order (specs/Make.antt), for every f64; that they are ECMA-262's makers in the exact domain is in proofs/Exact.antt.
 ghost use mathlib.Core.Path.{_≡_};
-ghost use mathlib.Core.Bool.{_&&_};
+ghost use mathlib.Core.Bool.{not, _&&_};
 ghost use Prim.Native.Nat.{_<_};
-ghost use lib.Ieee.{le};
+ghost use lib.Ieee.{le, eq};
+ghost use Rattle.float.specs.Rounding.{isWholeWithin};
+ghost use Rattle.calendar.specs.Calendar.{num};
 ghost use Rattle.make.specs.Make.{wholePart, makeTimeF, yearOfMonth, monthOfYear, monthStartF, dayOfMonthF, makeDayF, makeDateF, makeFullYearF, timeClipF};
 
 const MS_PER_SECOND: f64 = 1_000.0;
@@ -160,10 +162,24 @@ pub fn make_full_year(year: f64) -> f64
     truncated
 }
 
+// Whether x is a whole number of the range, and not 0.
+fn is_own_value(x: f64) -> bool
+    ensures { λ r. ⌜ r ≡ (not (eq x (num 0)) && isWholeWithin (num 8_640_000_000_000_000) x) ⌝ }
+{
+    if x == 0.0 {
+        return false;
+    }
+    float::is_whole_within(x, 8_640_000_000_000_000.0)
+}
+
 // TimeClip(time)
 pub fn time_clip(time: f64) -> f64
     ensures { λ r. ⌜ r ≡ timeClipF time ⌝ }
 {
+    // Such a time, as nearly always, is its own value.
+    if is_own_value(time) {
+        return time;
+    }
     // 1. If time is not finite, return NaN.
     if !float::is_finite(time) {
         return 0.0 / 0.0;
