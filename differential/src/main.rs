@@ -74,7 +74,7 @@ fn options() -> Result<Options, String> {
         threads,
         only: None,
         trace: false,
-        each: 24,
+        each: sample::EACH,
         tags: Vec::new(),
         mode: Mode::Compare,
     };

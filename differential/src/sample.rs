@@ -12,6 +12,8 @@ use std::path::Path;
 
 /// No line is longer than this, so that a reader needs no more room.
 const LONGEST: usize = 1024;
+/// How many cases of each function and number a family gives unless said.
+pub const EACH: usize = 24;
 
 /// Every family gives its cases; of each function and each number up to `each` of every family are
 /// kept, in the order of the functions, no line twice. `only` names the tags; empty, it means all.
@@ -88,4 +90,23 @@ pub fn check(folder: &str) -> Result<bool, String> {
     }
     println!("{} stored answers, {wrong} wrong", inputs.lines().count());
     Ok(wrong == 0)
+}
+
+#[cfg(test)]
+mod tests {
+    use super::*;
+
+    #[test]
+    fn a_sample_has_every_row_of_the_tables() {
+        for name in ["marked", "differences"] {
+            let family = *families::all().iter().find(|family| family.name == name).unwrap();
+            let (mut kept, mut all) = (BTreeMap::new(), BTreeSet::new());
+            gather(family, 1, EACH, &mut kept);
+            let mut collector = |case: &Case, _: &Outcome| {
+                all.insert(case.line());
+            };
+            (family.run)(&mut Run::collecting(name, 1, &mut collector));
+            assert_eq!(kept.values().flatten().count(), all.len(), "{name}");
+        }
+    }
 }

@@ -4,16 +4,17 @@ use super::Family;
 use crate::case::Case;
 use crate::expected::expected;
 use crate::inputs::{UTC, list_bytes};
-use crate::outcome::Outcome;
+use crate::outcome::{NAN, Outcome};
 use crate::run::Run;
 use original::doors::Setter;
 
 pub const FAMILIES: &[Family] = &[Family { name: "marked", run: marked }];
 
 /// What a row gives.
-enum Gives {
+pub enum Gives {
     Number(u32),
     Time(i64),
+    Nan,
     Text(&'static str),
 }
 
@@ -39,24 +40,26 @@ const REWRITTEN: [(&str, Gives); 3] = [
     ("-000000", Gives::Number(7)),
 ];
 
-fn row(run: &mut Run, case: &Case, gives: &Gives) {
+pub fn row(run: &mut Run, case: &Case, gives: &Gives) {
     run.check(case);
     let outcome = expected(case).outcome();
     let holds = outcome.as_ref().is_some_and(|o| gives_this(o, gives));
-    run.fact(holds, || format!("marked row: {}", case.line()));
+    run.fact(holds, || format!("row: {}", case.line()));
 }
 
 fn gives_this(outcome: &Outcome, gives: &Gives) -> bool {
     match *gives {
         Gives::Number(number) => outcome.number == number,
         Gives::Time(t) => outcome.number == 0 && outcome.value == (t as f64).to_bits(),
+        Gives::Nan => outcome.number == 0 && outcome.value == NAN,
         Gives::Text(text) => {
             outcome.number == 0 && outcome.out[..outcome.length] == *text.as_bytes()
         }
     }
 }
 
-fn record(fields: &[f64]) -> Vec<u8> {
+/// A record of the first fields.
+pub fn record(fields: &[f64]) -> Vec<u8> {
     let mut bytes = vec![(1u16 << fields.len()).wrapping_sub(1) as u8];
     bytes.extend(fields.iter().flat_map(|x| x.to_le_bytes()));
     bytes

@@ -5,6 +5,7 @@ use crate::run::Run;
 mod build;
 mod calendar;
 mod cancel;
+mod differences;
 mod digits;
 mod facts;
 mod floats;
@@ -41,6 +42,7 @@ pub fn all() -> Vec<Family> {
         floats::FAMILIES,
         digits::FAMILIES,
         marked::FAMILIES,
+        differences::FAMILIES,
     ]
     .concat()
 }
