@@ -54,6 +54,7 @@ enum Mode {
     Case(String),
     Bite,
     Sample(String),
+    Answers(String),
     Stored(String),
     List,
 }
@@ -64,7 +65,7 @@ const QUICK: u64 = 3;
 const USAGE: &str = "words: [--quick | --long N] [--seed S] [--threads N] [--only FAMILY] \
                      [--trace] \
                      [--case LINE | --bite | --sample FOLDER [--each N] [--tags A,B] | \
-                     --stored FOLDER | --list]";
+                     --answers FOLDER | --stored FOLDER | --list]";
 
 fn options() -> Result<Options, String> {
     let threads = std::thread::available_parallelism().map_or(1, |n| n.get());
@@ -92,6 +93,7 @@ fn options() -> Result<Options, String> {
             "--case" => options.mode = Mode::Case(next()?),
             "--bite" => options.mode = Mode::Bite,
             "--sample" => options.mode = Mode::Sample(next()?),
+            "--answers" => options.mode = Mode::Answers(next()?),
             "--stored" => options.mode = Mode::Stored(next()?),
             "--tags" => options.tags = next()?.split(',').map(str::to_string).collect(),
             "--each" => options.each = number(next()?)? as usize,
@@ -108,6 +110,7 @@ fn main() -> ExitCode {
         Mode::Case(line) => run::replay(line, &Library),
         Mode::Bite => Ok(bite::all(options.seed, options.threads)),
         Mode::Sample(folder) => sample::write(folder, options.seed, options.each, &options.tags),
+        Mode::Answers(folder) => sample::answer(folder),
         Mode::Stored(folder) => sample::check(folder),
         Mode::List => {
             families::all().iter().for_each(|family| println!("{}", family.name));

@@ -64,14 +64,19 @@ fn local_texts(run: &mut Run) {
     }
 }
 
+/// 2^53, from which on f64 has not every whole number.
+const TWO_53: f64 = 9_007_199_254_740_992.0;
+
 /// The builder's fields far out, and a setter without its first argument.
 fn fields(run: &mut Run) {
-    let rows: [(&[f64], i64); 5] = [
+    let rows: [(&[f64], i64); 7] = [
         (&[292_278_994.0, 10.0, -106_751_991_242.0], -86_400_000),
         (&[-292_275_055.0, 3.0, 106_751_991_214.0], -86_400_000),
         (&[-4_503_599_627_368_527.0, 54_043_195_528_445_960.0], 20_995_200_000),
         (&[275_761.0, 0.0, -200.0], 8_639_992_137_600_000),
         (&[2_000_000.0, 0.0, -729_766_000.0], -45_705_600_000),
+        (&[-400_000.0, 0.0, 146_816_529.0], 0),
+        (&[1970.0, 1.0, TWO_53, -24.0 * TWO_53], 2_818_572_288),
     ];
     for (fields, t) in rows {
         row(run, &Case::BuildUtc { record: &record(fields) }, &Gives::Time(t));
