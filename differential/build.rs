@@ -1,7 +1,7 @@
 //! Finds the proved archives and says which functions they have.
 //!
-//! `$ZOVATTHA_LIB`, else target/staticlib/libzovattha.a, has the C functions; `$DOORS_LIB`, else
-//! target/staticlib/libdoors.a, the test doors. An archive that is not there is no error: its
+//! `$ZOVATTHA_LIB`, else target/staticlib/libzovattha.a, has the C functions; `$EXPORTS_LIB`, else
+//! target/staticlib/libexports.a, the test exports. An archive that is not there is no error: its
 //! functions are then reported as absent. One that can't be read or linked is.
 
 #[path = "../bindings/rust/archive.rs"]
@@ -14,7 +14,7 @@ fn main() {
     // Each function that is found becomes a cfg of its name; no name is known beforehand.
     println!("cargo::rustc-check-cfg=cfg(any())");
     let mut found = Vec::new();
-    for (variable, name) in [("ZOVATTHA_LIB", "zovattha"), ("DOORS_LIB", "doors")] {
+    for (variable, name) in [("ZOVATTHA_LIB", "zovattha"), ("EXPORTS_LIB", "exports")] {
         println!("cargo::rerun-if-env-changed={variable}");
         let archive = place(variable, name);
         println!("cargo::rerun-if-changed={}", archive.display());

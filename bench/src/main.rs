@@ -1,5 +1,6 @@
 //! One run over both sides: the proved archive through its C functions, the original unchanged.
-//! Answers are compared before they are timed. Prints the table; `--keep` writes it to docs/.
+//! Answers are compared before they are timed. Prints the table; `--keep` writes it to docs/,
+//! and its first lines to the README.
 
 mod inputs;
 mod picture;
@@ -29,6 +30,9 @@ fn main() -> ExitCode {
         std::fs::create_dir_all("docs").expect("docs/ can be made");
         std::fs::write("docs/BENCH.md", report::page(&table)).expect("docs/BENCH.md is written");
         std::fs::write("docs/bench.svg", picture::svg(&run)).expect("docs/bench.svg is written");
+        let readme = std::fs::read_to_string("README.md").expect("README.md is read");
+        let readme = report::in_readme(&readme, &run).expect("README.md has the marks of the speed table");
+        std::fs::write("README.md", readme).expect("README.md is written");
     }
     ExitCode::SUCCESS
 }

@@ -100,6 +100,19 @@ fn capitalised(name: &str) -> String {
     first.to_uppercase() + rest
 }
 
+/// The README with the summary and the lists' costs of this run between the two marks.
+pub fn in_readme(readme: &str, run: &Run) -> Option<String> {
+    let (before, rest) = readme.split_once(MARK)?;
+    let (_, after) = rest.split_once(END)?;
+    let mut table = String::new();
+    summary(&mut table, run);
+    lists(&mut table, run);
+    Some(format!("{before}{MARK}\n\n{table}\n{END}{after}"))
+}
+
+const MARK: &str = "<!-- made by bench/run --keep -->";
+const END: &str = "<!-- end of what bench/run makes -->";
+
 /// docs/BENCH.md: how it was measured, the table, and the notes kept by hand.
 pub fn page(table: &str) -> String {
     format!("{HEAD}\n{table}\n{NOTES}")

@@ -3,7 +3,7 @@
 use crate::inputs::{self, INPUTS};
 use crate::timing::{self, Pair};
 use original::JsValue;
-use original::doors::Setter;
+use original::exports::Setter;
 use original::timed::{self, Engine};
 use std::hint::black_box;
 use zovattha::ffi::{self, Answer};

@@ -11,7 +11,7 @@ const TAKEN: [&str; 4] =
 
 fn main() {
     println!("cargo::rerun-if-env-changed=BOA_SRC");
-    println!("cargo::rerun-if-changed=src/utils_doors.rs");
+    println!("cargo::rerun-if-changed=src/utils_exports.rs");
     let manifest = PathBuf::from(env::var_os("CARGO_MANIFEST_DIR").unwrap());
     let out = PathBuf::from(env::var_os("OUT_DIR").unwrap());
     let source = env::var_os("BOA_SRC")
@@ -26,7 +26,7 @@ fn main() {
     println!("cargo::rustc-env=BOA_SRC_FOUND={}", source.display());
 }
 
-/// date/mod.rs as it stands; beside it, as its `mod utils`, the text of utils.rs with the doors
+/// date/mod.rs as it stands; beside it, as its `mod utils`, the text of utils.rs with the exports
 /// to what is private below it.
 fn lay_out_date(source: &Path, manifest: &Path, out: &Path) {
     let date = out.join("date");
@@ -35,8 +35,8 @@ fn lay_out_date(source: &Path, manifest: &Path, out: &Path) {
     let _ = fs::remove_file(&link);
     symlink(source.join("builtins/date/mod.rs"), &link).unwrap();
     let utils = source.join("builtins/date/utils.rs");
-    let doors = manifest.join("src/utils_doors.rs");
-    let text = format!("include!({utils:?});\ninclude!({doors:?});\n");
+    let exports = manifest.join("src/utils_exports.rs");
+    let text = format!("include!({utils:?});\ninclude!({exports:?});\n");
     fs::write(date.join("utils.rs"), text).unwrap();
     fs::write(out.join("date.rs"), format!("#[path = {link:?}]\npub mod date;\n")).unwrap();
 }

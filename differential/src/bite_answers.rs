@@ -7,7 +7,7 @@ use crate::inputs::list_bytes;
 use crate::outcome::Outcome;
 use crate::paper::{self, Zone};
 use crate::whole;
-use original::doors::Setter;
+use original::exports::Setter;
 
 const fn answer(name: &'static str, wrong: WrongAnswer) -> Bite {
     Bite { name, wrong: Wrong::Answer(wrong) }

@@ -7,7 +7,7 @@ use crate::outcome::Outcome;
 use crate::paper;
 use crate::standard::slots;
 use crate::whole;
-use original::doors::{Setter, calendar, make};
+use original::exports::{Setter, calendar, make};
 
 const fn answer(name: &'static str, wrong: WrongAnswer) -> Bite {
     Bite { name, wrong: Wrong::Answer(wrong) }

@@ -5,7 +5,7 @@ use crate::bite::{Bite, Wrong};
 use crate::expected::{RIGHT, Sides};
 use crate::paper::{self, Fields, Form, Record, Zone};
 use crate::whole;
-use ::original::doors::{self as original, Setter, ZoneList};
+use ::original::exports::{self as original, Setter, ZoneList};
 
 const fn sides(name: &'static str, sides: Sides) -> Bite {
     Bite { name, wrong: Wrong::Sides(sides) }

@@ -4,8 +4,8 @@
 //! hexadecimal digits, byte strings as hexadecimal of even length, `-` for none.
 
 use crate::hex;
-use crate::lower::{DOORS, Door, door};
-use original::doors::Setter;
+use crate::lower::{EXPORTS, Export, export};
+use original::exports::Setter;
 
 /// One call.
 #[derive(Clone, Copy)]
@@ -19,7 +19,7 @@ pub enum Case<'a> {
     BuildLocal { zone: &'a [u8], record: &'a [u8] },
     SetUtc { setter: Setter, time: u64, record: &'a [u8] },
     Set { setter: Setter, zone: &'a [u8], time: u64, record: &'a [u8] },
-    Door { door: &'static Door, zone: &'a [u8], args: [u64; 4] },
+    Export { export: &'static Export, zone: &'a [u8], args: [u64; 4] },
 }
 
 /// The setters with the tags of their UTC and local calls and the number of their arguments.
@@ -50,7 +50,7 @@ impl<'a> Case<'a> {
             Case::BuildLocal { .. } => "BLOC",
             Case::SetUtc { setter, .. } => setter_row(*setter).1,
             Case::Set { setter, .. } => setter_row(*setter).2,
-            Case::Door { door, .. } => door.tag,
+            Case::Export { export, .. } => export.tag,
         }
     }
 
@@ -62,7 +62,7 @@ impl<'a> Case<'a> {
             | Case::ToString { zone, .. }
             | Case::BuildLocal { zone, .. }
             | Case::Set { zone, .. }
-            | Case::Door { zone, .. } => zone,
+            | Case::Export { zone, .. } => zone,
             _ => &[],
         }
     }
@@ -103,7 +103,7 @@ impl<'a> Case<'a> {
             Case::BuildLocal { zone, record } | Case::Set { zone, record, .. } => {
                 zone.is_empty() || record.is_empty()
             }
-            Case::Door { .. } => false,
+            Case::Export { .. } => false,
         }
     }
 
@@ -122,9 +122,9 @@ impl<'a> Case<'a> {
             Case::BuildLocal { zone, record } => vec![bytes(zone), bytes(record)],
             Case::SetUtc { time, record, .. } => vec![word(time), bytes(record)],
             Case::Set { zone, time, record, .. } => vec![bytes(zone), word(time), bytes(record)],
-            Case::Door { door, zone, args } => {
-                let list = door.listed.then(|| bytes(zone));
-                list.into_iter().chain(args[..door.words].iter().map(|w| word(*w))).collect()
+            Case::Export { export, zone, args } => {
+                let list = export.listed.then(|| bytes(zone));
+                list.into_iter().chain(args[..export.words].iter().map(|w| word(*w))).collect()
             }
         }
     }
@@ -150,8 +150,8 @@ impl Case<'_> {
             | Case::ToString { time, .. }
             | Case::SetUtc { time, .. }
             | Case::Set { time, .. } => words.push(format!("time {:?}", f64::from_bits(time))),
-            Case::Door { door, args, .. } => {
-                let floats = args[..door.words].iter().map(|w| f64::from_bits(*w));
+            Case::Export { export, args, .. } => {
+                let floats = args[..export.words].iter().map(|w| f64::from_bits(*w));
                 words.push(format!("floats {:?}", floats.collect::<Vec<_>>()));
             }
             Case::BuildUtc { .. } | Case::BuildLocal { .. } => {}
@@ -216,11 +216,11 @@ impl Line {
             }
             "BUTC" => Case::BuildUtc { record: self.bytes(0)? },
             "BLOC" => Case::BuildLocal { zone: self.bytes(0)?, record: self.bytes(1)? },
-            tag => self.setter_or_door(tag)?,
+            tag => self.setter_or_export(tag)?,
         })
     }
 
-    fn setter_or_door(&self, tag: &str) -> Result<Case<'_>, String> {
+    fn setter_or_export(&self, tag: &str) -> Result<Case<'_>, String> {
         for (setter, utc, local, _) in SETTERS {
             if tag == utc {
                 let (time, record) = (self.word(0)?, self.bytes(1)?);
@@ -231,13 +231,13 @@ impl Line {
                 return Ok(Case::Set { setter, zone, time, record });
             }
         }
-        let door = door(tag).ok_or(format!("no such tag: {tag}"))?;
-        let zone = if door.listed { self.bytes(0)? } else { &[] };
+        let export = export(tag).ok_or(format!("no such tag: {tag}"))?;
+        let zone = if export.listed { self.bytes(0)? } else { &[] };
         let mut args = [0; 4];
-        for (i, arg) in args[..door.words].iter_mut().enumerate() {
-            *arg = self.word(i + usize::from(door.listed))?;
+        for (i, arg) in args[..export.words].iter_mut().enumerate() {
+            *arg = self.word(i + usize::from(export.listed))?;
         }
-        Ok(Case::Door { door, zone, args })
+        Ok(Case::Export { export, zone, args })
     }
 }
 
@@ -245,5 +245,5 @@ impl Line {
 pub fn tags() -> Vec<&'static str> {
     let calls = ["READ", "REWR", "WISO", "WUTC", "WLOC", "BUTC", "BLOC"];
     let setters = SETTERS.iter().flat_map(|row| [row.1, row.2]);
-    calls.into_iter().chain(setters).chain(DOORS.iter().map(|d| d.tag)).collect()
+    calls.into_iter().chain(setters).chain(EXPORTS.iter().map(|d| d.tag)).collect()
 }

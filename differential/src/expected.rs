@@ -2,12 +2,12 @@
 //! text by the original. Where whole numbers say it too, the original is held to them.
 
 use crate::case::{Case, setter_row};
-use crate::lower::Door;
+use crate::lower::Export;
 use crate::outcome::{Outcome, bits};
 use crate::paper::{self, Fields, Form, Record};
 use crate::standard;
 use crate::whole;
-use ::original::doors::{self as original, Setter, ZoneList, calendar, local};
+use ::original::exports::{self as original, Setter, ZoneList, calendar, local};
 
 /// What is expected of a case.
 pub enum Expected {
@@ -64,7 +64,7 @@ pub fn expected_by(sides: &Sides, case: &Case) -> Expected {
         Ok(list) => match *case {
             Case::Read { text, .. } => read(sides, &list, text, None),
             Case::Rewrite { text, out, .. } => read(sides, &list, text, Some(out)),
-            Case::Door { door, args, .. } => below(door, args, &list),
+            Case::Export { export, args, .. } => below(export, args, &list),
             Case::BuildUtc { record } => build(sides, None, record),
             Case::BuildLocal { record, .. } => build(sides, Some(&list), record),
             Case::SetUtc { setter, time, record } => set(sides, setter, None, time, record),
@@ -83,7 +83,7 @@ fn accepted(sides: &Sides, case: &Case) -> Result<Vec<Record>, u32> {
         | Case::ToString { zone, .. }
         | Case::BuildLocal { zone, .. }
         | Case::Set { zone, .. } => (sides.zone_list)(zone)?,
-        Case::Door { zone, .. } => (sides.zone_list)(zone).unwrap_or_default(),
+        Case::Export { zone, .. } => (sides.zone_list)(zone).unwrap_or_default(),
         _ => Vec::new(),
     };
     match *case {
@@ -253,13 +253,13 @@ fn present(setter: Setter, zone: Option<&ZoneList>, t: f64) -> [f64; 7] {
 }
 
 /// A function below the C interface; the list is empty where it was not accepted.
-fn below(door: &Door, args: [u64; 4], list: &[Record]) -> Expected {
-    if standard::unclaimed(door, args) {
+fn below(export: &Export, args: [u64; 4], list: &[Record]) -> Expected {
+    if standard::unclaimed(export, args) {
         return Expected::Unclaimed;
     }
     let zone = (!list.is_empty()).then(|| ZoneList::new(list));
-    let value = (door.original)(args, zone.as_ref());
-    match standard::below(door, args, list) {
+    let value = (export.original)(args, zone.as_ref());
+    match standard::below(export, args, list) {
         Some(says) if says != value && !both_zero(says, value) => {
             Expected::Parting(format!("the standard says {says:016x}, the original {value:016x}"))
         }

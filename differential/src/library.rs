@@ -3,7 +3,7 @@
 use crate::case::Case;
 use crate::ffi::Answer;
 use crate::outcome::Outcome;
-use original::doors::Setter;
+use original::exports::Setter;
 
 /// What a function of an archive gives, or nothing where build.rs did not find its symbol.
 macro_rules! if_linked {
@@ -141,8 +141,8 @@ macro_rules! functions {
             let $lent = (list.0, list.1, text.0, text.1, out.pointer_mut(), out.length());
             match *case {
                 $($case => if_linked!($name, unsafe { crate::ffi::$name $args }),)*
-                Case::Door { door, args, .. } => {
-                    let value = unsafe { door.linked?(list, args) };
+                Case::Export { export, args, .. } => {
+                    let value = unsafe { export.linked?(list, args) };
                     Some(Answer { number: 0, value, length: 0 })
                 }
             }

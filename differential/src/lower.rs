@@ -1,4 +1,4 @@
-//! The functions below the C interface, as the crate `doors` exports them: a row for each.
+//! The functions below the C interface, as the crate `exports` hands them out: a row for each.
 //!
 //! Every argument and every result is one 64-bit word: an f64 as its bits (a NaN handed out has
 //! the bits 7FF8000000000000, a NaN handed in has any), a whole number in two's complement,
@@ -8,13 +8,13 @@
 
 use crate::library::if_linked;
 use crate::outcome::bits;
-use original::doors::{ZoneList, calendar, digits, local, make};
+use original::exports::{ZoneList, calendar, digits, local, make};
 
 /// A zone list as it is lent: its pointer and its length.
 type List = (*const u8, usize);
 
 /// A function below the C interface.
-pub struct Door {
+pub struct Export {
     pub tag: &'static str,
     symbol: &'static str,
     /// Words after the zone list, if it takes one.
@@ -44,18 +44,18 @@ fn packed(text: &[u8]) -> u64 {
 /// A row: the tag, the C function with the names of its words (`&` before a list's), and what the
 /// original gives for them.
 macro_rules! table {
-    ($($tag:literal $door:ident($(&$zone:ident $(,)?)? $($word:ident),*) => $original:expr;)*) => {
-        &[$(Door {
+    ($($tag:literal $export:ident($(&$zone:ident $(,)?)? $($word:ident),*) => $original:expr;)*) => {
+        &[$(Export {
             tag: $tag,
-            symbol: stringify!($door),
+            symbol: stringify!($export),
             words: <[&str]>::len(&[$(stringify!($word)),*]),
             listed: !<[&str]>::is_empty(&[$(stringify!($zone))?]),
-            linked: if_linked!($door, |_list, [$($word,)* ..]| {
+            linked: if_linked!($export, |_list, [$($word,)* ..]| {
                 unsafe extern "C" {
-                    fn $door($($zone: *const u8, length: usize,)? $($word: u64),*) -> u64;
+                    fn $export($($zone: *const u8, length: usize,)? $($word: u64),*) -> u64;
                 }
                 $(let $zone = _list;)?
-                unsafe { $door($($zone.0, $zone.1,)? $($word),*) }
+                unsafe { $export($($zone.0, $zone.1,)? $($word),*) }
             }),
             original: |[$($word,)* ..], _list| {
                 $(let $zone = _list;)?
@@ -65,68 +65,68 @@ macro_rules! table {
     };
 }
 
-/// Every door, by tag.
-pub static DOORS: &[Door] = table! {
+/// Every export, by tag.
+pub static EXPORTS: &[Export] = table! {
     // f64's own methods and saturating casts.
-    "FLOR" doors_floor(x) => bits(f(x).floor());
-    "TRNC" doors_trunc(x) => bits(f(x).trunc());
-    "ABSF" doors_abs(x) => bits(f(x).abs());
-    "CPSN" doors_copysign(x, sign) => bits(f(x).copysign(f(sign)));
-    "REMU" doors_rem_euclid(x, by) => bits(f(x).rem_euclid(f(by)));
-    "TOU1" doors_as_u8(x) => whole(f(x) as u8);
-    "TOU2" doors_as_u16(x) => whole(f(x) as u16);
-    "TOI4" doors_as_i32(x) => whole(f(x) as i32);
-    "TOI8" doors_as_i64(x) => whole(f(x) as i64);
+    "FLOR" exports_floor(x) => bits(f(x).floor());
+    "TRNC" exports_trunc(x) => bits(f(x).trunc());
+    "ABSF" exports_abs(x) => bits(f(x).abs());
+    "CPSN" exports_copysign(x, sign) => bits(f(x).copysign(f(sign)));
+    "REMU" exports_rem_euclid(x, by) => bits(f(x).rem_euclid(f(by)));
+    "TOU1" exports_as_u8(x) => whole(f(x) as u8);
+    "TOU2" exports_as_u16(x) => whole(f(x) as u16);
+    "TOI4" exports_as_i32(x) => whole(f(x) as i32);
+    "TOI8" exports_as_i64(x) => whole(f(x) as i64);
     // The calendar: time or year as f64 bits; whole results as whole numbers, f64 results as bits.
-    "DAYT" doors_day(t) => bits(calendar::day(f(t)));
-    "TWDY" doors_time_within_day(t) => bits(calendar::time_within_day(f(t)));
-    "DIYR" doors_days_in_year(y) => whole(calendar::days_in_year(f(y)));
-    "DFYR" doors_day_from_year(y) => bits(calendar::day_from_year(f(y)));
-    "TFYR" doors_time_from_year(y) => bits(calendar::time_from_year(f(y)));
-    "YFRT" doors_year_from_time(t) => whole(calendar::year_from_time(f(t)));
-    "DWYR" doors_day_within_year(t) => whole(calendar::day_within_year(f(t)));
-    "INLP" doors_in_leap_year(t) => whole(calendar::in_leap_year(f(t)));
-    "MFRT" doors_month_from_time(t) => whole(calendar::month_from_time(f(t)));
-    "DFRT" doors_date_from_time(t) => whole(calendar::date_from_time(f(t)));
-    "WKDY" doors_week_day(t) => whole(calendar::week_day(f(t)));
-    "HFRT" doors_hour_from_time(t) => whole(calendar::hour_from_time(f(t)));
-    "MINT" doors_min_from_time(t) => whole(calendar::min_from_time(f(t)));
-    "SFRT" doors_sec_from_time(t) => whole(calendar::sec_from_time(f(t)));
-    "MSFT" doors_ms_from_time(t) => whole(calendar::ms_from_time(f(t)));
+    "DAYT" exports_day(t) => bits(calendar::day(f(t)));
+    "TWDY" exports_time_within_day(t) => bits(calendar::time_within_day(f(t)));
+    "DIYR" exports_days_in_year(y) => whole(calendar::days_in_year(f(y)));
+    "DFYR" exports_day_from_year(y) => bits(calendar::day_from_year(f(y)));
+    "TFYR" exports_time_from_year(y) => bits(calendar::time_from_year(f(y)));
+    "YFRT" exports_year_from_time(t) => whole(calendar::year_from_time(f(t)));
+    "DWYR" exports_day_within_year(t) => whole(calendar::day_within_year(f(t)));
+    "INLP" exports_in_leap_year(t) => whole(calendar::in_leap_year(f(t)));
+    "MFRT" exports_month_from_time(t) => whole(calendar::month_from_time(f(t)));
+    "DFRT" exports_date_from_time(t) => whole(calendar::date_from_time(f(t)));
+    "WKDY" exports_week_day(t) => whole(calendar::week_day(f(t)));
+    "HFRT" exports_hour_from_time(t) => whole(calendar::hour_from_time(f(t)));
+    "MINT" exports_min_from_time(t) => whole(calendar::min_from_time(f(t)));
+    "SFRT" exports_sec_from_time(t) => whole(calendar::sec_from_time(f(t)));
+    "MSFT" exports_ms_from_time(t) => whole(calendar::ms_from_time(f(t)));
     // The makers: f64 bits throughout.
-    "MKTM" doors_make_time(hour, min, sec, ms) => {
+    "MKTM" exports_make_time(hour, min, sec, ms) => {
         bits(make::make_time(f(hour), f(min), f(sec), f(ms)))
     };
-    "MKDY" doors_make_day(year, month, date) => bits(make::make_day(f(year), f(month), f(date)));
-    "MKDT" doors_make_date(day, time) => bits(make::make_date(f(day), f(time)));
-    "MKFY" doors_make_full_year(year) => bits(make::make_full_year(f(year)));
-    "CLIP" doors_time_clip(time) => bits(make::time_clip(f(time)));
+    "MKDY" exports_make_day(year, month, date) => bits(make::make_day(f(year), f(month), f(date)));
+    "MKDT" exports_make_date(day, time) => bits(make::make_date(f(day), f(time)));
+    "MKFY" exports_make_full_year(year) => bits(make::make_full_year(f(year)));
+    "CLIP" exports_time_clip(time) => bits(make::time_clip(f(time)));
     // The zone list: accepted or not; the offset in seconds at a second (i64) and at a time (f64
     // bits); local time and back (f64 bits).
-    "ZACC" doors_zone_accepted(&zone) => u64::from(zone.is_some());
-    "ZOFF" doors_zone_offset(&zone, second) => whole(zone.unwrap().offset_at(second as i64));
-    "LOFF" doors_local_timezone_offset_seconds(&zone, t) => {
+    "ZACC" exports_zone_accepted(&zone) => u64::from(zone.is_some());
+    "ZOFF" exports_zone_offset(&zone, second) => whole(zone.unwrap().offset_at(second as i64));
+    "LOFF" exports_local_timezone_offset_seconds(&zone, t) => {
         whole(local::local_timezone_offset_seconds(f(t), zone.unwrap()))
     };
-    "LOCT" doors_local_time(&zone, t) => bits(local::local_time(f(t), zone.unwrap()));
-    "UTCT" doors_utc_t(&zone, t) => bits(local::utc_t(f(t), zone.unwrap()));
+    "LOCT" exports_local_time(&zone, t) => bits(local::local_time(f(t), zone.unwrap()));
+    "UTCT" exports_utc_t(&zone, t) => bits(local::utc_t(f(t), zone.unwrap()));
     // Digits: process_4 takes 1 to 4 bytes (the value below 2^32), process_8 1 to 8; a pad takes
     // a number of at most so many digits.
-    "PRC4" doors_process_4(val, len) => u64::from(digits::process_4(val as u32, len as usize));
-    "PRC8" doors_process_8(val, len) => digits::process_8(val, len as usize);
-    "PAD2" doors_pad_two(n) => packed(&digits::pad_two(n as u8));
-    "PAD3" doors_pad_three(n) => packed(&digits::pad_three(n as u16));
-    "PAD4" doors_pad_four(n) => packed(&digits::pad_four(n as u32));
-    "PAD5" doors_pad_five(n) => packed(&digits::pad_five(n as u32));
-    "PAD6" doors_pad_six(n) => packed(&digits::pad_six(n as u32));
+    "PRC4" exports_process_4(val, len) => u64::from(digits::process_4(val as u32, len as usize));
+    "PRC8" exports_process_8(val, len) => digits::process_8(val, len as usize);
+    "PAD2" exports_pad_two(n) => packed(&digits::pad_two(n as u8));
+    "PAD3" exports_pad_three(n) => packed(&digits::pad_three(n as u16));
+    "PAD4" exports_pad_four(n) => packed(&digits::pad_four(n as u32));
+    "PAD5" exports_pad_five(n) => packed(&digits::pad_five(n as u32));
+    "PAD6" exports_pad_six(n) => packed(&digits::pad_six(n as u32));
 };
 
-/// The door of a tag.
-pub fn door(tag: &str) -> Option<&'static Door> {
-    DOORS.iter().find(|d| d.tag == tag)
+/// The export of a tag.
+pub fn export(tag: &str) -> Option<&'static Export> {
+    EXPORTS.iter().find(|d| d.tag == tag)
 }
 
-/// Every door's C function, and whether it is linked.
+/// Every export's C function, and whether it is linked.
 pub fn all() -> Vec<(&'static str, bool)> {
-    DOORS.iter().map(|door| (door.symbol, door.linked.is_some())).collect()
+    EXPORTS.iter().map(|export| (export.symbol, export.linked.is_some())).collect()
 }

@@ -130,7 +130,7 @@ fn main() -> ExitCode {
 /// Which functions the archives have, in plain lines.
 fn show_archives() {
     let known: Vec<_> = [library::all(), lower::all()].concat();
-    for (archive, all) in [("the archive", library::all()), ("the test doors", lower::all())] {
+    for (archive, all) in [("the archive", library::all()), ("the exports below it", lower::all())] {
         let absent: Vec<_> =
             all.iter().filter(|(_, there)| !there).map(|(name, _)| *name).collect();
         println!("{}: {} of {} functions linked", archive, all.len() - absent.len(), all.len());

@@ -2,11 +2,11 @@
 //! interface, in the exact domain; nothing outside it.
 
 use crate::expected::year_unclaimed;
-use crate::lower::Door;
+use crate::lower::Export;
 use crate::outcome::NAN;
 use crate::paper::{Fields, Record};
 use crate::whole::{self, Made, Parts};
-use original::doors::Setter;
+use original::exports::Setter;
 
 /// A time value's bits after TimeClip.
 fn clipped(t: i128) -> u64 {
@@ -75,9 +75,9 @@ pub fn set(
 
 /// No equality with the original is claimed: `make_full_year` from 2^53 on, and a year estimate
 /// whose sum with 1970 is beyond i32, where the original stops or wraps by how it was built.
-pub fn unclaimed(door: &Door, args: [u64; 4]) -> bool {
+pub fn unclaimed(export: &Export, args: [u64; 4]) -> bool {
     let x = f64::from_bits(args[0]);
-    match door.tag {
+    match export.tag {
         "MKFY" => year_unclaimed(x),
         "YFRT" | "DWYR" | "INLP" | "MFRT" | "DFRT" => {
             ((x + 15_778_476_000.0) / 31_556_952_000.0).floor() > f64::from(i32::MAX - 1970)
@@ -102,18 +102,18 @@ fn integer(n: i128) -> u64 {
 }
 
 /// A function below the C interface.
-pub fn below(door: &Door, args: [u64; 4], list: &[Record]) -> Option<u64> {
-    match door.tag {
-        "DIYR" | "DFYR" | "TFYR" => year_function(door.tag, whole_number(args[0])?),
-        "MKTM" | "MKDY" | "MKDT" | "MKFY" | "CLIP" => maker(door.tag, args),
+pub fn below(export: &Export, args: [u64; 4], list: &[Record]) -> Option<u64> {
+    match export.tag {
+        "DIYR" | "DFYR" | "TFYR" => year_function(export.tag, whole_number(args[0])?),
+        "MKTM" | "MKDY" | "MKDT" | "MKFY" | "CLIP" => maker(export.tag, args),
         "ZACC" => Some(u64::from(!list.is_empty())),
         "ZOFF" => Some(offset(list, 1000 * i128::from(args[0] as i64))),
-        "LOFF" | "LOCT" | "UTCT" => local(door.tag, whole_number(args[0])?, list),
+        "LOFF" | "LOCT" | "UTCT" => local(export.tag, whole_number(args[0])?, list),
         "DAYT" | "TWDY" | "YFRT" | "DWYR" | "INLP" | "MFRT" | "DFRT" | "WKDY" | "HFRT" | "MINT"
-        | "SFRT" | "MSFT" => Some(time_function(door.tag, whole::parts(whole_number(args[0])?))),
+        | "SFRT" | "MSFT" => Some(time_function(export.tag, whole::parts(whole_number(args[0])?))),
         "PRC4" | "PRC8" => digits(args[0], args[1]),
         "PAD2" | "PAD3" | "PAD4" | "PAD5" | "PAD6" => {
-            let width = usize::from(door.tag.as_bytes()[3] - b'0');
+            let width = usize::from(export.tag.as_bytes()[3] - b'0');
             let text = format!("{:0width$}", args[0]);
             Some(text.bytes().rev().fold(0, |word, b| word << 8 | u64::from(b)))
         }

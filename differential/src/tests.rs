@@ -7,7 +7,7 @@ use crate::outcome::NAN;
 use crate::paper;
 use crate::random::Random;
 use crate::whole;
-use original::doors::Setter;
+use original::exports::Setter;
 
 fn number(text: &str) -> u32 {
     read(text).0
@@ -263,10 +263,10 @@ fn lines_come_back() {
         cases.push(Case::SetUtc { setter, time: 8, record: &[0] });
         cases.push(Case::Set { setter, zone, time: 8, record: &[0] });
     }
-    for door in crate::lower::DOORS {
+    for export in crate::lower::EXPORTS {
         let mut args = [0; 4];
-        args[..door.words].fill(0xFEDC_BA98_7654_3210);
-        cases.push(Case::Door { door, zone: if door.listed { zone } else { &[] }, args });
+        args[..export.words].fill(0xFEDC_BA98_7654_3210);
+        cases.push(Case::Export { export, zone: if export.listed { zone } else { &[] }, args });
     }
     assert_eq!(cases.len(), tags().len());
     for case in cases {

@@ -24,8 +24,8 @@ refusalNumber NoTime = 10
 refusalNumber Output = 11
 
 -- "Every NaN handed out has bits 7FF8000000000000 (hexadecimal)."
-abbrev pub nanBits : ℕ
-nanBits = 0x7FF8_0000_0000_0000
+abbrev pub nanValue : ℕ
+nanValue = 0x7FF8_0000_0000_0000
 
 -- a whole number of milliseconds as the bits of a time value
 abbrev pub timeBits : ℤ → ℕ
@@ -33,7 +33,7 @@ timeBits t = toBits binary64 (ofInt binary64 t)
 
 -- "Success is 0." "An answer is a number, a time value and a length." "The reader, builder and setters have length 0." A refused call has
 -- the fault's number, NaN and length 0.
-abbrev pub replyOf : Reply → Answer
-replyOf (Time v) = record { number = 0; value = v; length = 0 }
-replyOf (Text v n) = record { number = 0; value = v; length = n }
-replyOf (Refused f) = record { number = refusalNumber f; value = nanBits; length = 0 }
+abbrev pub answerOf : Reply → Answer
+answerOf (Time v) = record { number = 0; value = v; length = 0 }
+answerOf (Text v n) = record { number = 0; value = v; length = n }
+answerOf (Refused f) = record { number = refusalNumber f; value = nanValue; length = 0 }

@@ -1,6 +1,6 @@
 // What a call answers. Inside, an answer is an enum; a C function answers its number, time value and length.
 ghost use mathlib.Core.Path.{_≡_};
-ghost use Rattle.answer.specs.Answer.{refusalNumber, replyOf};
+ghost use Rattle.answer.specs.Answer.{refusalNumber, answerOf};
 
 // Why a call is turned back: the faults of document 01's table, in its order.
 pub enum Refusal {
@@ -62,8 +62,8 @@ pub fn refusal_number(f: Refusal) -> u32
     }
 }
 
-pub fn reply_of(a: Reply) -> Answer
-    ensures { λ r. ⌜ r ≡ replyOf a ⌝ }
+pub fn answer_of(a: Reply) -> Answer
+    ensures { λ r. ⌜ r ≡ answerOf a ⌝ }
 {
     match a {
         Reply::Time(value) => Answer {

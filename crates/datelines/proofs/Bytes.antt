@@ -9,7 +9,7 @@ use borrow.Author.Tests.{eq-eqb, ne-eqb, lt-ltb, le-ltb}
 use lib.ListN.{length, take, set, getD, take-append-drop}
 use lib.Seq.{length-take-le, take-suc-set, take-suc, take-all, sets, sets-eq}
 use Rattle.text.proofs.Runs.{sets-join}
-use Rattle.datelines.specs.Lines.{lineOf, lastOf, behind, prints, emitted, left, lent, Puts}
+use Rattle.datelines.specs.Lines.{lineOf, lastOf, behind, prints, emitted, left, lent, Appends}
 use Rattle.datelines.proofs.Runs.{none, puts-as, puts-then}
 use Rattle.datelines.proofs.Streams.{left-snoc, lent-snoc, emitted-snoc, emitted-length, prints-length, last-length}
 
@@ -26,11 +26,11 @@ pub begins-bytes : (bytes line : List ℕ) (b : ℕ) → b ≡ 10 → bytes ≡ 
 begins-bytes bytes line b e = ap (sets bytes 0) (begins line b e)
 
 -- what a byte prints has room in 64 bytes
-pub byte-room : (line : List ℕ) (b : ℕ) {out : List ℕ} {at n : ℕ} {last : List ℕ} → Puts out at (prints line b) n last → n ≤ at + 64
+pub byte-room : (line : List ℕ) (b : ℕ) {out : List ℕ} {at n : ℕ} {last : List ℕ} → Appends out at (prints line b) n last → n ≤ at + 64
 byte-room line b p = omega (arith, p .next-is, prints-length line b)
 
 -- and so has what the end of the input prints
-pub last-room : (line : List ℕ) {out : List ℕ} {at n : ℕ} {last : List ℕ} → Puts out at (lastOf line) n last → n ≤ at + 64
+pub last-room : (line : List ℕ) {out : List ℕ} {at n : ℕ} {last : List ℕ} → Appends out at (lastOf line) n last → n ≤ at + 64
 last-room line p = omega (arith, p .next-is, last-length line)
 
 -- ---- another byte is kept, or not
@@ -63,12 +63,12 @@ module _ (line : List ℕ) (kept b : ℕ) (other : b ≡ 10 → ⊥) (long : len
   pub drops-bytes : 33 ≤ kept → line ≡ sets line 0 (behind (take kept line) b)
   drops-bytes h = rw (← drops h) (sym in-place)
 
-  pub quiet : {out : List ℕ} {at : ℕ} → Puts out at (prints (take kept line) b) at out
+  pub quiet : {out : List ℕ} {at : ℕ} → Appends out at (prints (take kept line) b) at out
   quiet = puts-as none silent
 
 -- ---- the chunk: from its first i bytes to the next
 module _ (chunk begun out : List ℕ) (at : ℕ) where
-  pub start : Puts out at (emitted begun (take 0 chunk)) at out
+  pub start : Appends out at (emitted begun (take 0 chunk)) at out
   unfolding emitted
   start = none
 
@@ -80,7 +80,7 @@ module _ (chunk begun out : List ℕ) (at : ℕ) where
   unfolding lent
   start-bytes bytes = refl
 
-  pub all-puts : {i n : ℕ} {last : List ℕ} → length chunk ≤ i → Puts out at (emitted begun (take i chunk)) n last → Puts out at (emitted begun chunk) n last
+  pub all-puts : {i n : ℕ} {last : List ℕ} → length chunk ≤ i → Appends out at (emitted begun (take i chunk)) n last → Appends out at (emitted begun chunk) n last
   all-puts {i} h p = puts-as p (ap (emitted begun) (take-all i chunk h))
 
   pub all-open : {i : ℕ} {l : List ℕ} → length chunk ≤ i → l ≡ left begun (take i chunk) → l ≡ left begun chunk
@@ -93,10 +93,10 @@ module _ (chunk begun out : List ℕ) (at : ℕ) where
     next-part : take (i + 1) chunk ≡ take i chunk ++ (getD chunk i 0 ∷ [])
     next-part = rw add-one (take-suc chunk i 0 more)
 
-    pub more-puts : {n m : ℕ} {line o last : List ℕ} → line ≡ left begun (take i chunk) → Puts out at (emitted begun (take i chunk)) n o → Puts o n (prints line (getD chunk i 0)) m last
-        → Puts out at (emitted begun (take (i + 1) chunk)) m last
+    pub more-puts : {n m : ℕ} {line o last : List ℕ} → line ≡ left begun (take i chunk) → Appends out at (emitted begun (take i chunk)) n o → Appends o n (prints line (getD chunk i 0)) m last
+        → Appends out at (emitted begun (take (i + 1) chunk)) m last
     more-puts {n} {m} {line} {o} {last} e p q =
-        puts-as (puts-then p (subst (λ (l : List ℕ). Puts o n (prints l (getD chunk i 0)) m last) e q) refl)
+        puts-as (puts-then p (subst (λ (l : List ℕ). Appends o n (prints l (getD chunk i 0)) m last) e q) refl)
         (sym (ap (emitted begun) next-part ∙ emitted-snoc begun (take i chunk) (getD chunk i 0)))
 
     pub more-open : {line l : List ℕ} → line ≡ left begun (take i chunk) → l ≡ behind line (getD chunk i 0) → l ≡ left begun (take (i + 1) chunk)
@@ -108,8 +108,8 @@ module _ (chunk begun out : List ℕ) (at : ℕ) where
         g ∙ ap₂ (λ (n l : List ℕ). sets n 0 (behind l (getD chunk i 0))) f e
         ∙ sym (ap (lent bytes begun) next-part ∙ lent-snoc bytes begun (take i chunk) (getD chunk i 0))
 
-  pub puts-room : {i n : ℕ} {last : List ℕ} → i ≤ length chunk → Puts out at (emitted begun (take i chunk)) n last → n ≤ at + 64 * i
+  pub puts-room : {i n : ℕ} {last : List ℕ} → i ≤ length chunk → Appends out at (emitted begun (take i chunk)) n last → n ≤ at + 64 * i
   puts-room {i} h p = omega (arith, p .next-is, emitted-length begun (take i chunk), length-take-le i chunk h)
 
-  pub chunk-room : {n : ℕ} {last : List ℕ} → Puts out at (emitted begun chunk) n last → n ≤ at + 64 * length chunk
+  pub chunk-room : {n : ℕ} {last : List ℕ} → Appends out at (emitted begun chunk) n last → n ≤ at + 64 * length chunk
   chunk-room p = omega (arith, p .next-is, emitted-length begun chunk)

@@ -10,7 +10,7 @@ use Rattle.answer.specs.declared.Reply.{Reply}
 use Rattle.answer.specs.declared.Reply.the-variants.{Text}
 use Rattle.writer.specs.Outcome.{Outcome, Leaves}
 use Rattle.writer.specs.Writer.{isoOutcome}
-use Rattle.datelines.specs.Lines.{isoOfBits, IsTimeBits, Puts}
+use Rattle.datelines.specs.Lines.{isoOfBits, IsTimeBits, Appends}
 use Rattle.datelines.proofs.Runs.{part-puts}
 use Rattle.datelines.proofs.Times.{iso-outcome}
 use Rattle.datelines.proofs.Streams.{iso-length}
@@ -33,7 +33,7 @@ module _ {bits : ℕ} (b : IsTimeBits bits) (out : List ℕ) (i : ℕ) (room : i
   pub text-length : {v n : ℕ} → r ≡ Text v n → n ≡ length (isoOfBits bits)
   text-length e = let h = reply-is-text in cc
 
-  pub iso-puts : {v n : ℕ} → r ≡ Text v n → Puts out i (isoOfBits bits) (i + n) (putMid i (length out - i) out ys)
+  pub iso-puts : {v n : ℕ} → r ≡ Text v n → Appends out i (isoOfBits bits) (i + n) (putMid i (length out - i) out ys)
   iso-puts e =
       part-puts (isoOfBits bits) out (omega (arith, iso-length bits))
       (ap (λ (z : List ℕ). take i out ++ z) (ap₂ (λ (x y : List ℕ). x ++ y) written rest ∙ append-nil _))

@@ -5,20 +5,20 @@ use Prim.Native.Nat.{ℕ, _+_, _≤_}
 use native.Mathlib.Nat.{add-assoc, add-zero}
 use lib.ListN.{length, take, drop, length-append}
 use lib.Seq.{sets-eq, drop-drop}
-use Rattle.text.specs.Output.{Puts as Stores}
+use Rattle.text.specs.Output.{Puts}
 use Rattle.text.proofs.Runs.{sets-join}
-use Rattle.datelines.specs.Lines.{Puts}
+use Rattle.datelines.specs.Lines.{Appends}
 
-pub stores : {a b : List ℕ} {i n : ℕ} {w : List ℕ} → Stores a i w n b → Puts a i w (i + n) b
+pub stores : {a b : List ℕ} {i n : ℕ} {w : List ℕ} → Puts a i w n b → Appends a i w (i + n) b
 stores {i = i} h = record { stored = h .stored; next-is = ap (λ (m : ℕ). i + m) (sym (h .long)) }
 
-pub none : {a : List ℕ} {i : ℕ} → Puts a i [] i a
+pub none : {a : List ℕ} {i : ℕ} → Appends a i [] i a
 none {i = i} = record { stored = refl; next-is = sym (add-zero i) }
 
-pub puts-as : {a b : List ℕ} {i j : ℕ} {u w : List ℕ} → Puts a i u j b → u ≡ w → Puts a i w j b
-puts-as {a} {b} {i} {j} h e = subst (λ (w : List ℕ). Puts a i w j b) e h
+pub puts-as : {a b : List ℕ} {i j : ℕ} {u w : List ℕ} → Appends a i u j b → u ≡ w → Appends a i w j b
+puts-as {a} {b} {i} {j} h e = subst (λ (w : List ℕ). Appends a i w j b) e h
 
-pub puts-then : {a b c : List ℕ} {i j k n : ℕ} {u v : List ℕ} → Puts a i u j b → Puts b n v k c → n ≡ j → Puts a i (u ++ v) k c
+pub puts-then : {a b c : List ℕ} {i j k n : ℕ} {u v : List ℕ} → Appends a i u j b → Appends b n v k c → n ≡ j → Appends a i (u ++ v) k c
 puts-then {a} {i = i} {u = u} {v = v} h g e =
     record {
       stored = g .stored ∙ rw (h .stored, e, h .next-is) (sets-join u v a i);
@@ -26,5 +26,5 @@ puts-then {a} {i = i} {u = u} {v = v} h g e =
     }
 
 -- a run that was written at the start of the part from i on
-pub part-puts : (w out : List ℕ) {last : List ℕ} {i n : ℕ} → i + length w ≤ length out → last ≡ take i out ++ (w ++ drop (length w) (drop i out)) → n ≡ length w → Puts out i w (i + n) last
+pub part-puts : (w out : List ℕ) {last : List ℕ} {i n : ℕ} → i + length w ≤ length out → last ≡ take i out ++ (w ++ drop (length w) (drop i out)) → n ≡ length w → Appends out i w (i + n) last
 part-puts w out {last} {i} {n} h e f = record { stored = e ∙ sym (sets-eq w out i h ∙ rw (append-assoc, ← drop-drop (length w) i out)); next-is = ap (λ (m : ℕ). i + m) f }

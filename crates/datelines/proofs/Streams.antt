@@ -21,7 +21,7 @@ use Rattle.answer.specs.Answer.{refusalNumber}
 use Rattle.answer.specs.declared.Refusal.the-variants.{ZoneList}
 use Rattle.answer.specs.declared.Reply.{Reply}
 use Rattle.answer.specs.declared.Reply.the-variants.{Time, Text, Refused}
-use Rattle.reader.specs.Outcome.{answerOf, readOutcome}
+use Rattle.reader.specs.Outcome.{replyFor, readOutcome}
 use Rattle.datelines.specs.Lines.{acceptedLine, refusedLine, answerLine, lineOf, lastOf, answersFrom, answers, behind, prints, emitted, left, lent, answersOfChunks, joined, isoOfBits}
 use Rattle.datelines.proofs.Decimal.{within, signed-length}
 
@@ -29,7 +29,7 @@ use Rattle.datelines.proofs.Decimal.{within, signed-length}
 pub line-prefix : (n : ℕ) (text : List ℕ) → 33 ≤ n → lineOf (take n text) ≡ lineOf text
 unfolding lineOf readOutcome
 line-prefix n text h =
-    ap (λ (r : Reading). answerLine (cond (accepts (replicate 12 0)) (answerOf (records (replicate 12 0)) r) (Refused ZoneList))) (read-prefix n text h)
+    ap (λ (r : Reading). answerLine (cond (accepts (replicate 12 0)) (replyFor (records (replicate 12 0)) r) (Refused ZoneList))) (read-prefix n text h)
 
 -- the answer by the reader's answer
 pub line-of : (text : List ℕ) (r : Reply) → readOutcome (replicate 12 0) text ≡ r → answerLine r ≡ lineOf text

@@ -116,6 +116,6 @@ pub record IsTimeBits (bits : ℕ) : Type 0 where
   pub bits-are : bits ≡ timeBits time
 
 -- w is stored in the output from the place i on, and `next` is the place behind it: `last` is the output then
-pub record Puts (out : List ℕ) (i : ℕ) (w : List ℕ) (next : ℕ) (last : List ℕ) : Type 0 where
+pub record Appends (out : List ℕ) (i : ℕ) (w : List ℕ) (next : ℕ) (last : List ℕ) : Type 0 where
   pub stored : last ≡ sets out i w
   pub next-is : next ≡ i + length w

@@ -5,7 +5,7 @@ ghost use Prim.Native.Nat.{_+_, _*_, _≤_, _<_};
 ghost use lib.IntN.{natAbs};
 ghost use lib.ListN.{length, take};
 ghost use lib.Seq.{sets};
-ghost use Rattle.datelines.specs.Lines.{decimal, signedDecimal, isoOfBits, acceptedLine, refusedLine, lineOf, behind, prints, emitted, left, lent, lastOf, IsTimeBits, Puts};
+ghost use Rattle.datelines.specs.Lines.{decimal, signedDecimal, isoOfBits, acceptedLine, refusedLine, lineOf, behind, prints, emitted, left, lent, lastOf, IsTimeBits, Appends};
 ghost use Rattle.datelines.specs.Fed.{Feeds};
 use answer::Reply;
 
@@ -13,7 +13,7 @@ use answer::Reply;
 
 fn put_decimal(n: u64, output: &mut [u8], at: usize) -> usize
     requires { ⌜ at + 20 ≤ length (now output) ⌝ }
-    ensures { λ r. ⌜ Puts (now (output .entry)) at (decimal n) r (now (output .exit)) ⌝ }
+    ensures { λ r. ⌜ Appends (now (output .entry)) at (decimal n) r (now (output .exit)) ⌝ }
 {
     if n < 10 {
         text::put(b'0' + n as u8, output, at);
@@ -33,7 +33,7 @@ fn unsigned_abs(x: i64) -> u64
 
 fn put_signed(x: i64, output: &mut [u8], at: usize) -> usize
     requires { ⌜ at + 21 ≤ length (now output) ⌝ }
-    ensures { λ r. ⌜ Puts (now (output .entry)) at (signedDecimal x) r (now (output .exit)) ⌝ }
+    ensures { λ r. ⌜ Appends (now (output .entry)) at (signedDecimal x) r (now (output .exit)) ⌝ }
 {
     let n = unsigned_abs(x);
     if x < 0 {
@@ -46,7 +46,7 @@ fn put_signed(x: i64, output: &mut [u8], at: usize) -> usize
 
 fn put_iso(bits: u64, output: &mut [u8], at: usize) -> usize
     requires { ⌜ IsTimeBits bits × (at + 27 ≤ length (now output)) ⌝ }
-    ensures { λ r. ⌜ Puts (now (output .entry)) at (isoOfBits bits) r (now (output .exit)) ⌝ }
+    ensures { λ r. ⌜ Appends (now (output .entry)) at (isoOfBits bits) r (now (output .exit)) ⌝ }
 {
     match writer::to_iso_string(bits, &mut output[at..]) {
         Reply::Text { value: _, length } => at + length,
@@ -57,7 +57,7 @@ fn put_iso(bits: u64, output: &mut [u8], at: usize) -> usize
 
 fn put_accepted(bits: u64, output: &mut [u8], at: usize) -> usize
     requires { ⌜ IsTimeBits bits × (at + 64 ≤ length (now output)) ⌝ }
-    ensures { λ r. ⌜ Puts (now (output .entry)) at (acceptedLine bits) r (now (output .exit)) ⌝ }
+    ensures { λ r. ⌜ Appends (now (output .entry)) at (acceptedLine bits) r (now (output .exit)) ⌝ }
 {
     text::put(b'0', output, at);
     text::put(b' ', output, at + 1);
@@ -71,7 +71,7 @@ fn put_accepted(bits: u64, output: &mut [u8], at: usize) -> usize
 
 fn put_refused(number: u32, output: &mut [u8], at: usize) -> usize
     requires { ⌜ at + 64 ≤ length (now output) ⌝ }
-    ensures { λ r. ⌜ Puts (now (output .entry)) at (refusedLine number) r (now (output .exit)) ⌝ }
+    ensures { λ r. ⌜ Appends (now (output .entry)) at (refusedLine number) r (now (output .exit)) ⌝ }
 {
     let next = put_decimal(number as u64, output, at);
     text::put(b'\n', output, next);
@@ -81,7 +81,7 @@ fn put_refused(number: u32, output: &mut [u8], at: usize) -> usize
 // Writes the answer to a text from the place `at` on, and answers the place behind it.
 pub fn put_line(text: &[u8], output: &mut [u8], at: usize) -> usize
     requires { ⌜ at + 64 ≤ length (now output) ⌝ }
-    ensures { λ r. ⌜ Puts (now (output .entry)) at (lineOf (now (text .entry))) r (now (output .exit)) ⌝ }
+    ensures { λ r. ⌜ Appends (now (output .entry)) at (lineOf (now (text .entry))) r (now (output .exit)) ⌝ }
 {
     let zone = [0u8; 12];
     match reader::read(&zone, text) {
@@ -151,7 +151,7 @@ pub fn feed(chunk: &[u8], line: &mut [u8], kept: usize, output: &mut [u8], at: u
 // The input has ended: the answer to the open line, if there is one.
 pub fn finish(line: &[u8], output: &mut [u8], at: usize) -> usize
     requires { ⌜ at + 64 ≤ length (now output) ⌝ }
-    ensures { λ r. ⌜ Puts (now (output .entry)) at (lastOf (now (line .entry))) r (now (output .exit)) ⌝ }
+    ensures { λ r. ⌜ Appends (now (output .entry)) at (lastOf (now (line .entry))) r (now (output .exit)) ⌝ }
 {
     if line.len() == 0 {
         return at;

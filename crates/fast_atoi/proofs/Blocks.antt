@@ -8,7 +8,7 @@ use native.Mathlib.Nat.{pow-suc, pow-le-pow-right, mul-assoc, mul-comm, mul-le-m
 use lib.ListN.{length, replicate}
 use Rattle.ecma262.specs.Digits.{digit, digits}
 use Rattle.ecma262.proofs.Digits.{length-digits}
-use Rattle.fast_atoi.specs.Join.{fromLeBytes, moved}
+use Rattle.fast_atoi.specs.Contracts.{fromLeBytes, moved}
 
 -- one byte more, above the others
 pub from-snoc : (s : List ℕ) (b : ℕ) → fromLeBytes (s ++ b ∷ []) ≡ fromLeBytes s + b * 256 ^ length s

@@ -7,7 +7,7 @@ use Prim.Native.Nat.{ℕ, zero, suc, _+_, _*_, _/_, _%_, _^_, _≤_, _<_}
 use native.Mathlib.Omega.{arith}
 use lib.Arith.{digits-mod, digits-div}
 use Rattle.ecma262.specs.Digits.{digits}
-use Rattle.fast_atoi.specs.Join.{fromLeBytes, moved, pairs4, join4, pairs8, fours8, join8}
+use Rattle.fast_atoi.specs.Contracts.{fromLeBytes, moved, pairs4, join4, pairs8, fours8, join8}
 use Rattle.fast_atoi.proofs.Blocks.{moved-digits}
 use Rattle.fast_atoi.proofs.Masks.{mask-0F, mask-FF, mask8-0F, mask8-FF, mask8-FFFF}
 

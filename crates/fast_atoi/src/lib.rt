@@ -2,7 +2,7 @@
 // three products (two for four digits). The products are "modulo 2^32 or 2^64 on purpose, in a helper".
 ghost use mathlib.Core.Path.{_≡_};
 ghost use Prim.Native.Nat.{_-_, _*_, _%_, _^_, _<_, _≤_};
-ghost use Rattle.fast_atoi.specs.Join.{moved, join4, join8};
+ghost use Rattle.fast_atoi.specs.Contracts.{moved, join4, join8};
 
 // The low 32 bits of the product, "built on halves and wrapping add".
 pub fn wrapping_mul_u32(a: u32, b: u32) -> u32

@@ -11,13 +11,13 @@ use Rattle.float.specs.Whole.{floorZ, truncZ}
 use Rattle.float.specs.Rounding.{truncF, floorF, absF, copysignF, remEuclidF, toIntegerOrInfinity, isWholeWithin}
 use Rattle.calendar.specs.Calendar.{dayF, timeWithinDayF, dayFromYearF, timeFromYearF, yearEstimateF, yearFromTimeF, dayWithinYearF, inLeapYearF, daysInYearF, monthFromTimeF, dateFromTimeF, hourFromTimeF, minFromTimeF, secFromTimeF, msFromTimeF, wrap32}
 use Rattle.make.specs.Make.{makeTimeF, makeDayF, makeDateF, makeFullYearF, fullYear, timeClipF, yearOfMonth, monthOfYear, monthStartF, dayOfMonthF}
-use Rattle.little_endian.specs.Bytes.{littleEndian, signed}
+use Rattle.little_endian.specs.Bytes.{littleEndian, twosComplement}
 use Rattle.zone.specs.Zone.{accepts, records, recordAt, isZoneList, decides, offsetAt}
 use Rattle.local.specs.Local.{localTimeF, utcF, offsetSecondsF, askedSecondF}
 use Rattle.timevalue.specs.TimeValue.{timeValueOf, isTime}
 use Rattle.field_record.specs.FieldRecord.{hasLength, hasOtherBit, placeOf, fieldAt, fieldOr}
 use Rattle.answer.specs.declared.Reply.{Reply}
-use Rattle.answer.specs.Answer.{replyOf}
+use Rattle.answer.specs.Answer.{answerOf}
 use Rattle.new_date.specs.Calls.{Call, setMilliseconds, setSeconds, setMinutes, setHours, setDate, setMonth, setFullYear, absent, newDate, valueFrom}
 use Rattle.fields.specs.Outcome.{valueOfNan, buildOutcome, setOutcome}
 
@@ -46,7 +46,7 @@ data Row : Type 0 where
   built : Bool → List ℕ → List ℕ → ℕ → ℕ → Row
 
 abbrev is : Reply → ℕ → ℕ → Bool
-is r number value = eqb (replyOf r .number) number && eqb (replyOf r .value) value && eqb (replyOf r .length) 0
+is r number value = eqb (answerOf r .number) number && eqb (answerOf r .value) value && eqb (answerOf r .length) 0
 
 right : Row → Bool
 right (set call local zone time fields n v) = is (setOutcome call local zone time fields) n v
@@ -83,5 +83,5 @@ rows =
     []
 
 outcomes-right : T (every rows)
-unfolding setOutcome buildOutcome valueOfNan valueFrom newDate absent fieldOr fieldAt placeOf hasLength hasOtherBit littleEndian ones timeValueOf isTime isWholeWithin isNan ofBits toBits ofInt eq le lt add sub mul div rem toUnsigned toSigned truncF floorF absF copysignF remEuclidF toIntegerOrInfinity floorZ truncZ makeTimeF makeDayF makeDateF makeFullYearF fullYear timeClipF yearOfMonth monthOfYear monthStartF dayOfMonthF dayF timeWithinDayF dayFromYearF timeFromYearF yearEstimateF yearFromTimeF dayWithinYearF inLeapYearF daysInYearF monthFromTimeF dateFromTimeF hourFromTimeF minFromTimeF secFromTimeF msFromTimeF wrap32 monthOf dateOf daysBefore accepts records recordAt signed isZoneList decides offsetAt localTimeF utcF offsetSecondsF askedSecondF marked low right every rows
+unfolding setOutcome buildOutcome valueOfNan valueFrom newDate absent fieldOr fieldAt placeOf hasLength hasOtherBit littleEndian ones timeValueOf isTime isWholeWithin isNan ofBits toBits ofInt eq le lt add sub mul div rem toUnsigned toSigned truncF floorF absF copysignF remEuclidF toIntegerOrInfinity floorZ truncZ makeTimeF makeDayF makeDateF makeFullYearF fullYear timeClipF yearOfMonth monthOfYear monthStartF dayOfMonthF dayF timeWithinDayF dayFromYearF timeFromYearF yearEstimateF yearFromTimeF dayWithinYearF inLeapYearF daysInYearF monthFromTimeF dateFromTimeF hourFromTimeF minFromTimeF secFromTimeF msFromTimeF wrap32 monthOf dateOf daysBefore accepts records recordAt twosComplement isZoneList decides offsetAt localTimeF utcF offsetSecondsF askedSecondF marked low right every rows
 outcomes-right = tt

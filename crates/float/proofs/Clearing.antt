@@ -15,7 +15,7 @@ use lib.Ieee.Exact.{HasValue, odd-sign, round-exact}
 use lib.Ieee.Back.{whole-unique}
 use Rattle.float.specs.Rounding.{truncF, floorF}
 use Rattle.float.proofs.Patterns.{pat, read, fields}
-use Rattle.float.specs.Patterns.{fractionBits, lead, place, mag}
+use Rattle.float.specs.Contracts.{fractionBits, lead, place, mag}
 use Rattle.float.proofs.Fractions as frac
 use Rattle.float.proofs.Fractions.{ceil, ceil-same, ceil-exact, ceil-more}
 use Rattle.float.proofs.Rounding.{wholeNumber, trunc-fin, floor-fin, trunc-value, floor-value}

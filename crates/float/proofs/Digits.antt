@@ -17,7 +17,7 @@ use lib.Ieee.Nearest.{div-same}
 use lib.Ieee.Digits.{back}
 use lib.Ieee.Scale.{round-same}
 use Rattle.float.specs.Rounding.{withSign}
-use Rattle.float.specs.Patterns.{lead, place, mag}
+use Rattle.float.specs.Contracts.{lead, place, mag}
 use Rattle.float.proofs.Rounding.{round-signed}
 use Rattle.float.proofs.Ops.{mod-scale}
 use Rattle.float.proofs.Patterns.{pat, read, signBit, Fields, fields, digits-of, signed, bits-back, bits-lt}

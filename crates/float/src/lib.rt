@@ -6,7 +6,7 @@ ghost use Prim.Native.Nat.{_+_, _-_, _*_, _/_, _%_, _^_, _<_, _≤_};
 ghost use lib.Ieee.Scale.{finite};
 ghost use lib.Ieee.{binary64, ofBits, toBits, round, rem, isNan, toUnsigned, toSigned};
 ghost use Rattle.float.specs.Rounding.{truncF, floorF, absF, copysignF, remEuclidF, toIntegerOrInfinity, isWholeWithin};
-ghost use Rattle.float.specs.Patterns.{fractionBits, lead, place};
+ghost use Rattle.float.specs.Contracts.{fractionBits, lead, place};
 ghost use Rattle.float.specs.Whole.{truncZ, WholeWithin};
 
 // ---- a pattern's parts

@@ -1,4 +1,4 @@
--- Two's complement of any width: `signed` is what the machine's signed integers are, and always in their range. Assumes nothing.
+-- Two's complement of any width: `twosComplement` is what the machine's signed integers are, and always in their range. Assumes nothing.
 use mathlib.Core.Path.{_≡_, refl, sym, ap, subst, _∙_}
 use mathlib.Core.List.{List}
 use Prim.Native.Nat.{ℕ, zero, suc, _+_, _*_, _-_, _%_, _^_, _≤_, _<_}
@@ -12,25 +12,25 @@ use mir.Syntax.{Width}
 use mir.Val.{SFits, toZ, hbits}
 use mir.ValLaws.{toZ-pos}
 use Rattle.integers.proofs.Int.{plus, minus, ints, diff-fact}
-use Rattle.little_endian.specs.Bytes.{littleEndian, signed}
+use Rattle.little_endian.specs.Bytes.{littleEndian, twosComplement}
 
 -- the numbers of b bits are twice h, at a width's numerals both by `refl`
 module _ (b h : ℕ) (half : 2 ^ (b - 1) ≡ h) (all : 2 ^ b ≡ h + h) where
-  as-half : (x : ℕ) → signed b x ≡ pos ((x + h) % (h + h)) -ℤ pos h
-  unfolding signed
+  as-half : (x : ℕ) → twosComplement b x ≡ pos ((x + h) % (h + h)) -ℤ pos h
+  unfolding twosComplement
   as-half x = ap (λ (k : ℕ). pos ((x + k) % 2 ^ b) -ℤ pos k) half ∙ ap (λ (m : ℕ). pos ((x + h) % m) -ℤ pos h) all
 
   -- the lower half of the unsigned numbers stands for itself
-  pub signed-low : (x : ℕ) → x < h → signed b x ≡ pos x
+  pub signed-low : (x : ℕ) → x < h → twosComplement b x ≡ pos x
   signed-low x l = as-half x ∙ omega (ints, diff-fact (pos ((x + h) % (h + h))) (pos h), mod-eq-of-lt {n = x + h} {m = h + h} (omega arith))
 
   -- the upper half, for what is left of it to the next power
-  pub signed-high : (x y : ℕ) → y < h → x + suc y ≡ h + h → signed b x ≡ negsuc y
+  pub signed-high : (x y : ℕ) → y < h → x + suc y ≡ h + h → twosComplement b x ≡ negsuc y
   signed-high x y l e =
       let m : (x + h) % (h + h) ≡ x - h = ap (λ (k : ℕ). k % (h + h)) (let k : x + h ≡ (x - h) + (h + h) = omega arith in k) ∙ add-mod-right (x - h) (h + h) ∙ mod-eq-of-lt (omega arith) in
       as-half x ∙ omega (ints, diff-fact (pos ((x + h) % (h + h))) (pos h), m)
 
-  pub signed-range : (x : ℕ) → 0 < h → mag (signed b x) < h
+  pub signed-range : (x : ℕ) → 0 < h → mag (twosComplement b x) < h
   signed-range x p = subst (λ (z : ℤ). mag z < h) (sym (as-half x)) (below ((x + h) % (h + h)) (mod-lt (x + h) (omega arith)))
     where
       below : (r : ℕ) → r < h + h → mag (pos r -ℤ pos h) < h

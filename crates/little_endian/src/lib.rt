@@ -2,7 +2,7 @@
 ghost use mathlib.Core.Path.{_≡_};
 ghost use Prim.Native.Nat.{_+_, _≤_, _<_};
 ghost use lib.ListN.{length};
-ghost use Rattle.little_endian.specs.Bytes.{littleEndian, signed};
+ghost use Rattle.little_endian.specs.Bytes.{littleEndian, twosComplement};
 
 fn wide(x: u8) -> u32
     ensures { λ r. ⌜ (r ≡ x) × (r < 256) ⌝ }
@@ -30,7 +30,7 @@ pub fn u64_at(bytes: &[u8], at: usize) -> u64
 
 // Two's complement; neither test is left in the compiled code.
 pub fn signed32(x: u32) -> i32
-    ensures { λ r. ⌜ r ≡ signed 32 x ⌝ }
+    ensures { λ r. ⌜ r ≡ twosComplement 32 x ⌝ }
 {
     if x < 0x8000_0000 {
         x as i32
@@ -40,7 +40,7 @@ pub fn signed32(x: u32) -> i32
 }
 
 pub fn signed64(x: u64) -> i64
-    ensures { λ r. ⌜ r ≡ signed 64 x ⌝ }
+    ensures { λ r. ⌜ r ≡ twosComplement 64 x ⌝ }
 {
     if x < 0x8000_0000_0000_0000 {
         x as i64

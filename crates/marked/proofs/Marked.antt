@@ -9,7 +9,7 @@ use Rattle.float.specs.Rounding.{withSign, isNegative, truncF, floorF, absF, co
 use Rattle.float.specs.Whole.{floorZ, truncZ}
 use Rattle.calendar.specs.Calendar.{dayF, timeWithinDayF, daysInYearF, dayFromYearF, timeFromYearF, wrap32, yearEstimateF, yearFromTimeF, dayWithinYearF, inLeapYearF, monthFromTimeF, dateFromTimeF}
 use Rattle.make.specs.Make.{yearOfMonth, monthOfYear, monthStartF, dayOfMonthF, makeDayF, makeDateF, timeClipF}
-use Rattle.little_endian.specs.Bytes.{littleEndian, signed}
+use Rattle.little_endian.specs.Bytes.{littleEndian, twosComplement}
 use Rattle.zone.specs.Zone.{recordAt, records, isZoneList, accepts, decides, offsetAt}
 use Rattle.local.specs.Local.{askedSecond, offsetOfInstant, offsetOfLocal, offsetOfSuffix, localTime, utcTime, askedSecondF, offsetSecondsF, localTimeF, utcF}
 use Rattle.timevalue.specs.TimeValue.{isTime, timeValueOf}
@@ -22,8 +22,8 @@ use Rattle.writer.specs.Writer.{isoOutcome, utcOutcome, localOutcome}
 use Rattle.rewrite.specs.Rewrite.{rewriteOutcome}
 use Rattle.new_date.specs.Calls.{absent, newDate, valueFrom}
 use Rattle.fields.specs.Outcome.{valueOfNan, setOutcome}
-use Rattle.marked.specs.Table.{rows, right, every}
+use Rattle.marked.specs.Table.{rows, right, allRight}
 
-pub marked-rows : T (every rows)
-unfolding every right ones floorZ span climb size odd units round neg sum add sub mul div rem lt eq le ne ofInt toUnsigned toSigned isNan ofFields ofBits toBits DaysInYear DayFromYear YearFromTime monthOf dateOf daysBefore MakeDay isoYear dayName monthName paddedYear yearSign offsetSign withSign isNegative truncF floorF absF copysignF remEuclidF toIntegerOrInfinity truncZ dayF timeWithinDayF daysInYearF dayFromYearF timeFromYearF wrap32 yearEstimateF yearFromTimeF dayWithinYearF inLeapYearF monthFromTimeF dateFromTimeF yearOfMonth monthOfYear monthStartF dayOfMonthF makeDayF makeDateF timeClipF littleEndian signed recordAt records isZoneList accepts decides offsetAt askedSecond offsetOfInstant offsetOfLocal offsetOfSuffix localTime utcTime askedSecondF offsetSecondsF localTimeF utcF isWholeWithin isTime timeValueOf hasLength hasOtherBit placeOf fieldAt fieldOr after give choose byte digitsAfter within signedYear readYear readDay readDate readDecimals readSecond readTime readOffsetMinute readOffset readZone ending timePart rest read fieldsTime instantOf answerAt readOutcome written isoOutcome utcOutcome localOutcome rewriteOutcome absent newDate valueFrom valueOfNan setOutcome
+pub marked-rows : T (allRight rows)
+unfolding allRight right ones floorZ span climb size odd units round neg sum add sub mul div rem lt eq le ne ofInt toUnsigned toSigned isNan ofFields ofBits toBits DaysInYear DayFromYear YearFromTime monthOf dateOf daysBefore MakeDay isoYear dayName monthName paddedYear yearSign offsetSign withSign isNegative truncF floorF absF copysignF remEuclidF toIntegerOrInfinity truncZ dayF timeWithinDayF daysInYearF dayFromYearF timeFromYearF wrap32 yearEstimateF yearFromTimeF dayWithinYearF inLeapYearF monthFromTimeF dateFromTimeF yearOfMonth monthOfYear monthStartF dayOfMonthF makeDayF makeDateF timeClipF littleEndian twosComplement recordAt records isZoneList accepts decides offsetAt askedSecond offsetOfInstant offsetOfLocal offsetOfSuffix localTime utcTime askedSecondF offsetSecondsF localTimeF utcF isWholeWithin isTime timeValueOf hasLength hasOtherBit placeOf fieldAt fieldOr after give choose byte digitsAfter within signedYear readYear readDay readDate readDecimals readSecond readTime readOffsetMinute readOffset readZone ending timePart rest read fieldsTime instantOf answerAt readOutcome written isoOutcome utcOutcome localOutcome rewriteOutcome absent newDate valueFrom valueOfNan setOutcome
 marked-rows = tt

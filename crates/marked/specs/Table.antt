@@ -9,7 +9,7 @@ use lib.Dec.{eqb}
 use lib.IntN.{ℤ, pos, negℤ}
 use lib.ListN.{length, drop, replicate}
 use Rattle.ecma262.specs.Texts.{ascii}
-use Rattle.answer.specs.Answer.{replyOf, nanBits, timeBits}
+use Rattle.answer.specs.Answer.{answerOf, nanValue, timeBits}
 use Rattle.answer.specs.declared.Answer.{Answer}
 use Rattle.reader.specs.Outcome.{readOutcome}
 use Rattle.writer.specs.Outcome.{Outcome}
@@ -21,8 +21,8 @@ use Rattle.fields.specs.Outcome.{setOutcome}
 -- ---- what is lent
 
 -- the list (0, 0), and the list (0, 7200) (3600, 3600): 7200 is 0x1C20, and 3600 is 0x0E10
-abbrev pub zero : List ℕ
-zero = replicate 12 0
+abbrev pub utcList : List ℕ
+utcList = replicate 12 0
 
 abbrev pub twoOffsets : List ℕ
 twoOffsets = replicate 8 0 ++ (0x20 ∷ 0x1C ∷ 0 ∷ 0 ∷ []) ++ (0x10 ∷ 0x0E ∷ 0 ∷ 0 ∷ 0 ∷ 0 ∷ 0 ∷ 0 ∷ []) ++ (0x10 ∷ 0x0E ∷ 0 ∷ 0 ∷ [])
@@ -32,11 +32,11 @@ abbrev pub lent : List ℕ
 lent = replicate 40 0xA5
 
 -- a field record whose one field is bit 0's: the f64 of 1, and of 2024
-abbrev pub one : List ℕ
-one = 1 ∷ 0 ∷ 0 ∷ 0 ∷ 0 ∷ 0 ∷ 0 ∷ 0xF0 ∷ 0x3F ∷ []
+abbrev pub recordOf1 : List ℕ
+recordOf1 = 1 ∷ 0 ∷ 0 ∷ 0 ∷ 0 ∷ 0 ∷ 0 ∷ 0xF0 ∷ 0x3F ∷ []
 
-abbrev pub year2024 : List ℕ
-year2024 = 1 ∷ 0 ∷ 0 ∷ 0 ∷ 0 ∷ 0 ∷ 0xA0 ∷ 0x9F ∷ 0x40 ∷ []
+abbrev pub recordOf2024 : List ℕ
+recordOf2024 = 1 ∷ 0 ∷ 0 ∷ 0 ∷ 0 ∷ 0 ∷ 0xA0 ∷ 0x9F ∷ 0x40 ∷ []
 
 -- ---- a row: what is given, and the answer
 pub data Row : Type 0 where
@@ -47,7 +47,7 @@ pub data Row : Type 0 where
   isoOf utcOf : ℤ → String → Row
   localOf : List ℕ → ℤ → String → Row
   -- a setter, UTC and local, on the bits of a time value and a field record
-  sets : Call → ℕ → List ℕ → ℤ → Row
+  set : Call → ℕ → List ℕ → ℤ → Row
 
 abbrev pub rows : List Row
 rows =
@@ -64,8 +64,8 @@ rows =
     ∷ refused "-271821-04-19" 9
     ∷ isoOf (negℤ (pos 62167219200001)) "-000001-12-31T23:59:59.999Z"
     ∷ utcOf (negℤ (pos 62167219200001)) "Fri, 31 Dec -0001 23:59:59 GMT"
-    ∷ sets setMonth (timeBits (pos 1706659200000)) one (pos 1709337600000)
-    ∷ sets setFullYear nanBits year2024 (pos 1704067200000)
+    ∷ set setMonth (timeBits (pos 1706659200000)) recordOf1 (pos 1709337600000)
+    ∷ set setFullYear nanValue recordOf2024 (pos 1704067200000)
     ∷ localOf twoOffsets (pos 0) "Thu Jan 01 1970 02:00:00 GMT+0100"
     ∷ []
 
@@ -81,28 +81,28 @@ sameBytes (a ∷ s) (b ∷ t) = eqb a b && sameBytes s t
 
 -- number n, NaN and length 0
 abbrev refusal : ℕ → Answer
-refusal n = record { number = n; value = nanBits; length = 0 }
+refusal n = record { number = n; value = nanValue; length = 0 }
 
 -- number 0, the time t and a length
 abbrev success : ℤ → ℕ → Answer
 success t n = record { number = 0; value = timeBits t; length = n }
 
 abbrev sameOutcome : Outcome → Answer → List ℕ → Bool
-sameOutcome o a out = sameAnswer (replyOf (o .reply)) a && sameBytes (o .output) out
+sameOutcome o a out = sameAnswer (answerOf (o .reply)) a && sameBytes (o .output) out
 
 -- the time and the length of the text are answered; the text stands in front, and every byte past it is as it was
 abbrev writes : Outcome → ℤ → String → Bool
 writes o t text = sameOutcome o (success t (length (ascii text))) (ascii text ++ drop (length (ascii text)) lent)
 
 unfoldable pub right : Row → Bool
-right (refused text n) = sameAnswer (replyOf (readOutcome zero (ascii text))) (refusal n) && sameOutcome (rewriteOutcome zero (ascii text) lent) (refusal n) lent
-right (reads text t written) = sameAnswer (replyOf (readOutcome zero (ascii text))) (success t 0) && writes (rewriteOutcome zero (ascii text) lent) t written
+right (refused text n) = sameAnswer (answerOf (readOutcome utcList (ascii text))) (refusal n) && sameOutcome (rewriteOutcome utcList (ascii text) lent) (refusal n) lent
+right (reads text t written) = sameAnswer (answerOf (readOutcome utcList (ascii text))) (success t 0) && writes (rewriteOutcome utcList (ascii text) lent) t written
 right (isoOf t text) = writes (isoOutcome (timeBits t) lent) t text
 right (utcOf t text) = writes (utcOutcome (timeBits t) lent) t text
 right (localOf zone t text) = writes (localOutcome zone (timeBits t) lent) t text
-right (sets call time fields t) =
-    sameAnswer (replyOf (setOutcome call false [] time fields)) (success t 0) && sameAnswer (replyOf (setOutcome call true zero time fields)) (success t 0)
+right (set call time fields t) =
+    sameAnswer (answerOf (setOutcome call false [] time fields)) (success t 0) && sameAnswer (answerOf (setOutcome call true utcList time fields)) (success t 0)
 
-unfoldable pub every : List Row → Bool
-every [] = true
-every (row ∷ rest) = right row && every rest
+unfoldable pub allRight : List Row → Bool
+allRight [] = true
+allRight (row ∷ rest) = right row && allRight rest

@@ -10,7 +10,7 @@ use lib.ListN.{length, drop, getD, drop-of-length-le}
 use lib.Seq.{drop-cons}
 use borrow.Author.Tests.{le-leb, lt-leb}
 use Rattle.ecma262.specs.Digits.{digit, digits}
-use Rattle.fast_atoi.specs.Join.{fromLeBytes}
+use Rattle.fast_atoi.specs.Contracts.{fromLeBytes}
 use Rattle.fast_atoi.proofs.Blocks.{from-digits, from-small}
 use Rattle.parser.specs.declared.Fault.the-variants.{Short, Bad}
 use Rattle.parser.specs.Reading.{ok, fault, digitsAfter}

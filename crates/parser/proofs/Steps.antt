@@ -12,7 +12,7 @@ use borrow.Author.Tests.{le-leb, lt-leb, eq-eqb, ne-eqb, eqb-true, eqb-false}
 use Rattle.ecma262.specs.Format.{Year, Date, Time, Zone}
 use Rattle.ecma262.specs.Format.Year.{six}
 use Rattle.ecma262.specs.Format.Form.{date, timed}
-use Rattle.fast_atoi.specs.Join.{moved, join4, join8}
+use Rattle.fast_atoi.specs.Contracts.{moved, join4, join8}
 use Rattle.fast_atoi.proofs.Blocks.{from-small}
 use Rattle.fast_atoi.proofs.Joined.{four-joined, eight-joined}
 use Rattle.parser.specs.declared.Fault.{Fault}

@@ -8,7 +8,7 @@ use lib.Dec.{eqb}
 use lib.ListN.{drop}
 use Rattle.ecma262.specs.Digits.{digits}
 use Rattle.ecma262.specs.Format as format
-use Rattle.fast_atoi.specs.Join.{fromLeBytes}
+use Rattle.fast_atoi.specs.Contracts.{fromLeBytes}
 use Rattle.parser.specs.declared.Year.{Year}
 use Rattle.parser.specs.declared.Year.the-variants.{Four, Six}
 use Rattle.parser.specs.declared.Date.{Date}

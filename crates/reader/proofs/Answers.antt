@@ -14,16 +14,16 @@ use Rattle.answer.specs.Answer.{timeBits}
 use Rattle.answer.specs.declared.Refusal.the-variants.{ZoneList, Instant}
 use Rattle.answer.specs.declared.Reply.the-variants.{Time, Refused}
 use Rattle.reader.specs.Denotes.{instantOf}
-use Rattle.reader.specs.Outcome.{refusalOf, answerAt, answerOf, readOutcome}
+use Rattle.reader.specs.Outcome.{refusalOf, answerAt, replyFor, readOutcome}
 
 module _ (zone text : List ℕ) where
   pub list-refused : accepts zone ≡ false → Refused ZoneList ≡ readOutcome zone text
   unfolding readOutcome
-  list-refused e = ap (λ (b : Bool). cond b (answerOf (records zone) (read text)) (Refused ZoneList)) (sym e)
+  list-refused e = ap (λ (b : Bool). cond b (replyFor (records zone) (read text)) (Refused ZoneList)) (sym e)
 
-  by-reading : (r : Reading) → accepts zone ≡ true → read text ≡ r → answerOf (records zone) r ≡ readOutcome zone text
+  by-reading : (r : Reading) → accepts zone ≡ true → read text ≡ r → replyFor (records zone) r ≡ readOutcome zone text
   unfolding readOutcome
-  by-reading r e f = ap₂ (λ (b : Bool) (r : Reading). cond b (answerOf (records zone) r) (Refused ZoneList)) (sym e) (sym f)
+  by-reading r e f = ap₂ (λ (b : Bool) (r : Reading). cond b (replyFor (records zone) r) (Refused ZoneList)) (sym e) (sym f)
 
   pub text-refused : (f : Fault) → accepts zone ≡ true → read text ≡ refused f → Refused (refusalOf f) ≡ readOutcome zone text
   text-refused f = by-reading (refused f)

@@ -28,9 +28,9 @@ refusalOf Trailing = TextRest
 unfoldable pub answerAt : ℤ → Reply
 answerAt t = cond (leb (natAbs t) timeRange) (Time (timeBits t)) (Refused Instant)
 
-abbrev pub answerOf : List Record → Reading → Reply
-answerOf list (form f) = answerAt (instantOf list f)
-answerOf list (refused f) = Refused (refusalOf f)
+abbrev pub replyFor : List Record → Reading → Reply
+replyFor list (form f) = answerAt (instantOf list f)
+replyFor list (refused f) = Refused (refusalOf f)
 
 unfoldable pub readOutcome : List ℕ → List ℕ → Reply
-readOutcome zone text = cond (accepts zone) (answerOf (records zone) (read text)) (Refused ZoneList)
+readOutcome zone text = cond (accepts zone) (replyFor (records zone) (read text)) (Refused ZoneList)

@@ -166,31 +166,31 @@ fn value(v: u64) -> Called {
 // f64's own methods and casts.
 fn floats(tag: [u8; 4], x: u64, y: u64) -> Called {
     if is(tag, *b"FLOR") {
-        return value(doors::doors_floor(x));
+        return value(exports::exports_floor(x));
     }
     if is(tag, *b"TRNC") {
-        return value(doors::doors_trunc(x));
+        return value(exports::exports_trunc(x));
     }
     if is(tag, *b"ABSF") {
-        return value(doors::doors_abs(x));
+        return value(exports::exports_abs(x));
     }
     if is(tag, *b"CPSN") {
-        return value(doors::doors_copysign(x, y));
+        return value(exports::exports_copysign(x, y));
     }
     if is(tag, *b"REMU") {
-        return value(doors::doors_rem_euclid(x, y));
+        return value(exports::exports_rem_euclid(x, y));
     }
     if is(tag, *b"TOU1") {
-        return value(doors::doors_as_u8(x));
+        return value(exports::exports_as_u8(x));
     }
     if is(tag, *b"TOU2") {
-        return value(doors::doors_as_u16(x));
+        return value(exports::exports_as_u16(x));
     }
     if is(tag, *b"TOI4") {
-        return value(doors::doors_as_i32(x));
+        return value(exports::exports_as_i32(x));
     }
     if is(tag, *b"TOI8") {
-        return value(doors::doors_as_i64(x));
+        return value(exports::exports_as_i64(x));
     }
     Called::No
 }
@@ -198,34 +198,34 @@ fn floats(tag: [u8; 4], x: u64, y: u64) -> Called {
 // The calendar: days and years.
 fn days(tag: [u8; 4], t: u64) -> Called {
     if is(tag, *b"DAYT") {
-        return value(doors::doors_day(t));
+        return value(exports::exports_day(t));
     }
     if is(tag, *b"YFRT") {
-        return value(doors::doors_year_from_time(t));
+        return value(exports::exports_year_from_time(t));
     }
     if is(tag, *b"DWYR") {
-        return value(doors::doors_day_within_year(t));
+        return value(exports::exports_day_within_year(t));
     }
     if is(tag, *b"INLP") {
-        return value(doors::doors_in_leap_year(t));
+        return value(exports::exports_in_leap_year(t));
     }
     if is(tag, *b"MFRT") {
-        return value(doors::doors_month_from_time(t));
+        return value(exports::exports_month_from_time(t));
     }
     if is(tag, *b"DFRT") {
-        return value(doors::doors_date_from_time(t));
+        return value(exports::exports_date_from_time(t));
     }
     if is(tag, *b"WKDY") {
-        return value(doors::doors_week_day(t));
+        return value(exports::exports_week_day(t));
     }
     if is(tag, *b"DIYR") {
-        return value(doors::doors_days_in_year(t));
+        return value(exports::exports_days_in_year(t));
     }
     if is(tag, *b"DFYR") {
-        return value(doors::doors_day_from_year(t));
+        return value(exports::exports_day_from_year(t));
     }
     if is(tag, *b"TFYR") {
-        return value(doors::doors_time_from_year(t));
+        return value(exports::exports_time_from_year(t));
     }
     Called::No
 }
@@ -233,19 +233,19 @@ fn days(tag: [u8; 4], t: u64) -> Called {
 // The calendar: within a day.
 fn clock(tag: [u8; 4], t: u64) -> Called {
     if is(tag, *b"TWDY") {
-        return value(doors::doors_time_within_day(t));
+        return value(exports::exports_time_within_day(t));
     }
     if is(tag, *b"HFRT") {
-        return value(doors::doors_hour_from_time(t));
+        return value(exports::exports_hour_from_time(t));
     }
     if is(tag, *b"MINT") {
-        return value(doors::doors_min_from_time(t));
+        return value(exports::exports_min_from_time(t));
     }
     if is(tag, *b"SFRT") {
-        return value(doors::doors_sec_from_time(t));
+        return value(exports::exports_sec_from_time(t));
     }
     if is(tag, *b"MSFT") {
-        return value(doors::doors_ms_from_time(t));
+        return value(exports::exports_ms_from_time(t));
     }
     Called::No
 }
@@ -253,19 +253,19 @@ fn clock(tag: [u8; 4], t: u64) -> Called {
 // The makers.
 fn makers(tag: [u8; 4], x: u64, y: u64, z: u64, w: u64) -> Called {
     if is(tag, *b"MKTM") {
-        return value(doors::doors_make_time(x, y, z, w));
+        return value(exports::exports_make_time(x, y, z, w));
     }
     if is(tag, *b"MKDY") {
-        return value(doors::doors_make_day(x, y, z));
+        return value(exports::exports_make_day(x, y, z));
     }
     if is(tag, *b"MKDT") {
-        return value(doors::doors_make_date(x, y));
+        return value(exports::exports_make_date(x, y));
     }
     if is(tag, *b"MKFY") {
-        return value(doors::doors_make_full_year(x));
+        return value(exports::exports_make_full_year(x));
     }
     if is(tag, *b"CLIP") {
-        return value(doors::doors_time_clip(x));
+        return value(exports::exports_time_clip(x));
     }
     Called::No
 }
@@ -273,19 +273,19 @@ fn makers(tag: [u8; 4], x: u64, y: u64, z: u64, w: u64) -> Called {
 // The zone list and local time.
 fn zones(tag: [u8; 4], zone: &[u8], x: u64) -> Called {
     if is(tag, *b"ZACC") {
-        return value(doors::doors_zone_accepted(zone));
+        return value(exports::exports_zone_accepted(zone));
     }
     if is(tag, *b"ZOFF") {
-        return value(doors::doors_zone_offset(zone, x));
+        return value(exports::exports_zone_offset(zone, x));
     }
     if is(tag, *b"LOFF") {
-        return value(doors::doors_local_timezone_offset_seconds(zone, x));
+        return value(exports::exports_local_timezone_offset_seconds(zone, x));
     }
     if is(tag, *b"LOCT") {
-        return value(doors::doors_local_time(zone, x));
+        return value(exports::exports_local_time(zone, x));
     }
     if is(tag, *b"UTCT") {
-        return value(doors::doors_utc_t(zone, x));
+        return value(exports::exports_utc_t(zone, x));
     }
     Called::No
 }
@@ -293,25 +293,25 @@ fn zones(tag: [u8; 4], zone: &[u8], x: u64) -> Called {
 // Digits.
 fn digits(tag: [u8; 4], x: u64, y: u64) -> Called {
     if is(tag, *b"PRC4") {
-        return value(doors::doors_process_4(x, y));
+        return value(exports::exports_process_4(x, y));
     }
     if is(tag, *b"PRC8") {
-        return value(doors::doors_process_8(x, y));
+        return value(exports::exports_process_8(x, y));
     }
     if is(tag, *b"PAD2") {
-        return value(doors::doors_pad_two(x));
+        return value(exports::exports_pad_two(x));
     }
     if is(tag, *b"PAD3") {
-        return value(doors::doors_pad_three(x));
+        return value(exports::exports_pad_three(x));
     }
     if is(tag, *b"PAD4") {
-        return value(doors::doors_pad_four(x));
+        return value(exports::exports_pad_four(x));
     }
     if is(tag, *b"PAD5") {
-        return value(doors::doors_pad_five(x));
+        return value(exports::exports_pad_five(x));
     }
     if is(tag, *b"PAD6") {
-        return value(doors::doors_pad_six(x));
+        return value(exports::exports_pad_six(x));
     }
     Called::No
 }

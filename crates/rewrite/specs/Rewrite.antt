@@ -3,7 +3,7 @@
 use mathlib.Core.List.{List}
 use Prim.Native.Nat.{ℕ}
 use lib.ListN.{take}
-use Rattle.answer.specs.Answer.{replyOf}
+use Rattle.answer.specs.Answer.{answerOf}
 use Rattle.answer.specs.declared.Refusal.the-variants.{NoTime}
 use Rattle.answer.specs.declared.Reply.{Reply}
 use Rattle.answer.specs.declared.Reply.the-variants.{Time, Text, Refused}
@@ -22,4 +22,4 @@ rewriteOutcome zone text out = thenWrite (readOutcome zone text) out
 
 -- "The bytes a call writes are the output's first ones, as many as the length it returns with number 0": a refused call returns length 0.
 abbrev pub runOf : Outcome → List ℕ
-runOf o = take (replyOf (o .reply) .length) (o .output)
+runOf o = take (answerOf (o .reply) .length) (o .output)

@@ -9,11 +9,11 @@ use Rattle.ecma262.specs.Date.{DaysInYear, DayFromYear, YearFromTime, monthOf, 
 use Rattle.ecma262.specs.Texts.{ascii, isoYear, dayName, monthName, paddedYear, yearSign, offsetSign}
 use Rattle.float.specs.Whole.{truncZ}
 use Rattle.float.specs.Rounding.{truncF, absF, isWholeWithin}
-use Rattle.little_endian.specs.Bytes.{littleEndian, signed}
+use Rattle.little_endian.specs.Bytes.{littleEndian, twosComplement}
 use Rattle.zone.specs.Zone.{recordAt, records, isZoneList, accepts, decides, offsetAt}
 use Rattle.local.specs.Local.{askedSecond, offsetOfInstant, offsetOfSuffix, localTime}
 use Rattle.timevalue.specs.TimeValue.{isTime, timeValueOf}
-use Rattle.answer.specs.Answer.{nanBits}
+use Rattle.answer.specs.Answer.{nanValue}
 use Rattle.answer.specs.declared.Refusal.the-variants.{ZoneList, TimeValue, NoTime, Output}
 use Rattle.answer.specs.declared.Reply.the-variants.{Text}
 use Rattle.writer.specs.Outcome.{Outcome, refused, written}
@@ -38,7 +38,7 @@ list : List ℕ
 list = 0 ∷ 0 ∷ 0 ∷ 0 ∷ 0 ∷ 0 ∷ 0 ∷ 0 ∷ 0x20 ∷ 0x1C ∷ 0 ∷ 0 ∷ 0x10 ∷ 0x0E ∷ 0 ∷ 0 ∷ 0 ∷ 0 ∷ 0 ∷ 0 ∷ 0x10 ∷ 0x0E ∷ 0 ∷ 0 ∷ []
 
 local-of-0 : localOutcome list 0 (blank 40) ≡ wrote 0 (ascii "Thu Jan 01 1970 02:00:00 GMT+0100") 33
-unfolding localOutcome written wrote blank list timeValueOf isTime isWholeWithin ofBits toBits ofInt eq le isNan truncF truncZ absF dayName monthName paddedYear yearSign offsetSign YearFromTime DayFromYear DaysInYear monthOf dateOf records recordAt littleEndian signed isZoneList accepts decides offsetAt askedSecond offsetOfInstant offsetOfSuffix localTime
+unfolding localOutcome written wrote blank list timeValueOf isTime isWholeWithin ofBits toBits ofInt eq le isNan truncF truncZ absF dayName monthName paddedYear yearSign offsetSign YearFromTime DayFromYear DaysInYear monthOf dateOf records recordAt littleEndian twosComplement isZoneList accepts decides offsetAt askedSecond offsetOfInstant offsetOfSuffix localTime
 local-of-0 = refl
 
 -- -0 is answered as 0, and a text has room in an output of its own length, but not in one that is a byte shorter
@@ -51,9 +51,9 @@ zero = (refl, refl)
 -- NaN, by another of its patterns
 nan-texts :
     (isoOutcome 0xFFF8_0000_0000_0000 (blank 40) ≡ refused NoTime (blank 40))
-    × (utcOutcome 0xFFF8_0000_0000_0000 (blank 40) ≡ wrote nanBits (ascii "Invalid Date") 12)
-    × (localOutcome list 0xFFF8_0000_0000_0000 (blank 40) ≡ wrote nanBits (ascii "Invalid Date") 12)
-unfolding isoOutcome utcOutcome localOutcome written wrote blank list timeValueOf ofBits isNan records recordAt littleEndian signed isZoneList accepts decides offsetAt
+    × (utcOutcome 0xFFF8_0000_0000_0000 (blank 40) ≡ wrote nanValue (ascii "Invalid Date") 12)
+    × (localOutcome list 0xFFF8_0000_0000_0000 (blank 40) ≡ wrote nanValue (ascii "Invalid Date") 12)
+unfolding isoOutcome utcOutcome localOutcome written wrote blank list timeValueOf ofBits isNan records recordAt littleEndian twosComplement isZoneList accepts decides offsetAt
 nan-texts = (refl, refl, refl)
 
 -- the first row that applies: 1 before 2, 2 and 10 before 11
@@ -63,5 +63,5 @@ rows-in-order :
     × (utcOutcome 0x3FE0_0000_0000_0000 [] ≡ refused TimeValue [])
     × (isoOutcome 0xFFF8_0000_0000_0000 [] ≡ refused NoTime [])
     × (utcOutcome 0xFFF8_0000_0000_0000 [] ≡ refused Output [])
-unfolding isoOutcome utcOutcome localOutcome written list timeValueOf isTime isWholeWithin ofBits toBits ofInt eq le isNan truncF truncZ absF records recordAt littleEndian signed isZoneList accepts decides offsetAt
+unfolding isoOutcome utcOutcome localOutcome written list timeValueOf isTime isWholeWithin ofBits toBits ofInt eq le isNan truncF truncZ absF records recordAt littleEndian twosComplement isZoneList accepts decides offsetAt
 rows-in-order = (refl, refl, refl, refl, refl)

@@ -16,7 +16,7 @@ use Rattle.answer.specs.declared.Refusal.{Refusal}
 use Rattle.answer.specs.declared.Refusal.the-variants.{ZoneList}
 use Rattle.answer.specs.declared.Reply.{Reply}
 use Rattle.answer.specs.declared.Reply.the-variants.{Refused}
-use Rattle.writer.specs.Fields.{IsShown}
+use Rattle.writer.specs.Contracts.{IsShown}
 use Rattle.writer.specs.Outcome.{Outcome, refused, Leaves}
 use Rattle.writer.specs.Writer.{isoCase, isoOutcome, utcCase, utcOutcome, localCase, localOutcome}
 

@@ -19,7 +19,7 @@ use Rattle.local.specs.Local.{offsetOfInstant, offsetOfSuffix, localTime, offse
 use Rattle.local.proofs.Whole.{offset-whole, offset-small, local-time-shown, local-time-whole}
 use Rattle.text.specs.Print.{wholeOf}
 use Rattle.text.specs.declared.DateFields.{DateFields}
-use Rattle.writer.specs.Fields.{IsShown, FieldsAt}
+use Rattle.writer.specs.Contracts.{IsShown, FieldsAt}
 use Rattle.writer.specs.Writer.{toDateString}
 use Rattle.writer.proofs.Written.{local-of-time}
 

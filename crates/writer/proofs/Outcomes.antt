@@ -19,7 +19,7 @@ use Rattle.timevalue.specs.declared.TimeValue.{TimeValue as Given}
 use Rattle.timevalue.specs.declared.TimeValue.the-variants.{Nan, Refused as NoTimeValue}
 use Rattle.timevalue.specs.TimeValue.{timeValueOf}
 use Rattle.timevalue.proofs.Laws.{time-back}
-use Rattle.answer.specs.Answer.{nanBits, timeBits}
+use Rattle.answer.specs.Answer.{nanValue, timeBits}
 use Rattle.answer.specs.declared.Refusal.the-variants.{ZoneList, TimeValue, NoTime, Output}
 use Rattle.answer.specs.declared.Reply.the-variants.{Text}
 use Rattle.writer.specs.Outcome.{refused, written}
@@ -64,7 +64,7 @@ module _ (time : ℕ) (out : List ℕ) where
   unfolding isoOutcome
   iso-nan e = ap (λ (g : Given). isoCase g out) e
 
-  pub utc-nan : timeValueOf time ≡ Nan → utcOutcome time out ≡ written nanBits invalidDate out
+  pub utc-nan : timeValueOf time ≡ Nan → utcOutcome time out ≡ written nanValue invalidDate out
   unfolding utcOutcome
   utc-nan e = ap (λ (g : Given). utcCase g out) e
 
@@ -81,7 +81,7 @@ module _ (time : ℕ) (out : List ℕ) where
     unfolding localOutcome
     local-list e = rw e
 
-    pub local-nan : accepts zone ≡ true → timeValueOf time ≡ Nan → localOutcome zone time out ≡ written nanBits invalidDate out
+    pub local-nan : accepts zone ≡ true → timeValueOf time ≡ Nan → localOutcome zone time out ≡ written nanValue invalidDate out
     unfolding localOutcome
     local-nan ok e = rw ok (ap (λ (g : Given). localCase (records zone) g out) e)
 

@@ -16,7 +16,7 @@ use Rattle.text.specs.declared.Printed.{Printed}
 use Rattle.text.specs.declared.Printed.the-variants.{Length, NoRoom}
 use Rattle.text.proofs.Times.{time-printable}
 use Rattle.answer.specs.declared.Reply.{Reply}
-use Rattle.writer.specs.Fields.{FieldsAt, replied}
+use Rattle.writer.specs.Contracts.{FieldsAt, replied}
 use Rattle.writer.specs.Outcome.{written, Leaves}
 
 module _ {w out last : List ℕ} {p : Printed} {r : Reply} (value : ℕ) (h : Prints w out last p) (e : r ≡ replied value p) where

@@ -1,3 +1,3 @@
-pub mod Fields
+pub mod Contracts
 pub mod Outcome
 pub mod Writer

@@ -12,7 +12,7 @@ use Rattle.local.specs.Local.{localTime, offsetOfSuffix}
 use Rattle.timevalue.specs.declared.TimeValue.{TimeValue as Given}
 use Rattle.timevalue.specs.declared.TimeValue.the-variants.{Time, Nan, Refused as NoTimeValue}
 use Rattle.timevalue.specs.TimeValue.{timeValueOf}
-use Rattle.answer.specs.Answer.{nanBits}
+use Rattle.answer.specs.Answer.{nanValue}
 use Rattle.answer.specs.declared.Refusal.the-variants.{ZoneList, TimeValue, NoTime}
 use Rattle.writer.specs.Outcome.{Outcome, refused, written}
 
@@ -28,7 +28,7 @@ isoOutcome time out = isoCase (timeValueOf time) out
 -- UTC: rows 2 and 11; "the UTC and local writers answer `Invalid Date` for NaN"
 abbrev pub utcCase : Given → List ℕ → Outcome
 utcCase NoTimeValue out = refused TimeValue out
-utcCase Nan out = written nanBits invalidDate out
+utcCase Nan out = written nanValue invalidDate out
 utcCase (Time t) out = written (toBits binary64 t) (utcText (truncZ t)) out
 
 unfoldable pub utcOutcome : ℕ → List ℕ → Outcome
@@ -42,7 +42,7 @@ toDateString list tv = localText (localTime list tv) (offsetOfSuffix list (local
 -- local: rows 1, 2 and 11, and `Invalid Date`
 abbrev pub localCase : List Record → Given → List ℕ → Outcome
 localCase list NoTimeValue out = refused TimeValue out
-localCase list Nan out = written nanBits invalidDate out
+localCase list Nan out = written nanValue invalidDate out
 localCase list (Time t) out = written (toBits binary64 t) (toDateString list (truncZ t)) out
 
 unfoldable pub localOutcome : List ℕ → ℕ → List ℕ → Outcome

@@ -8,8 +8,8 @@ ghost use mathlib.Core.Path.{_≡_};
 ghost use lib.Ieee.{binary64, toBits};
 ghost use Rattle.ecma262.specs.Texts.{isoText, utcText, invalidDate};
 ghost use Rattle.float.specs.Whole.{truncZ};
-ghost use Rattle.answer.specs.Answer.{nanBits};
-ghost use Rattle.writer.specs.Fields.{IsShown, FieldsAt, replied};
+ghost use Rattle.answer.specs.Answer.{nanValue};
+ghost use Rattle.writer.specs.Contracts.{IsShown, FieldsAt, replied};
 ghost use Rattle.writer.specs.Outcome.{written, Leaves};
 ghost use Rattle.timevalue.specs.TimeValue.{IsTime};
 ghost use Rattle.zone.specs.Zone.{records, Accepted};
@@ -80,7 +80,7 @@ pub fn to_date_string_t(tv: f64, zone: &[u8], output: &mut [u8]) -> Reply
 
 // The text of NaN.
 fn write_invalid(output: &mut [u8]) -> Reply
-    ensures { λ r. ⌜ Leaves (written nanBits invalidDate (now (output .entry))) r (now (output .exit)) ⌝ }
+    ensures { λ r. ⌜ Leaves (written nanValue invalidDate (now (output .entry))) r (now (output .exit)) ⌝ }
 {
     let printed = text::invalid_date(output);
     reply(0x7FF8_0000_0000_0000, printed)

@@ -8,7 +8,7 @@ use lib.Arith.{mod-mul}
 use lib.IntN.{ℤ, pos, negsuc}
 use lib.ListN.{length, getD}
 use lib.Signed.{mag}
-use Rattle.little_endian.specs.Bytes.{littleEndian, signed}
+use Rattle.little_endian.specs.Bytes.{littleEndian, twosComplement}
 use Rattle.zone.specs.Zone.{Record, recordAt, records, listed, IsZoneList, Accepted, offsetAt}
 use Rattle.little_endian.proofs.Numbers.{signed-low, signed-high}
 use Rattle.zone.proofs.Rule.{records-length}
@@ -53,19 +53,19 @@ module _ (b h : ℕ) (half : 2 ^ (b - 1) ≡ h) (all : 2 ^ b ≡ h + h) where
   unsigned-small (pos n) p l = omega arith
   unsigned-small (negsuc n) p l = omega (arith, all)
 
-  signed-unsigned : (z : ℤ) → mag z < h → signed b (unsigned b z) ≡ z
+  signed-unsigned : (z : ℤ) → mag z < h → twosComplement b (unsigned b z) ≡ z
   signed-unsigned (pos n) l = signed-low b h half all n l
   signed-unsigned (negsuc n) l = signed-high b h half all (2 ^ b - suc n) n l (omega (arith, all))
 
 -- ---- a record
-second-back : (z : ZoneRecord) (rest : List ℕ) → mag (z .second) < 2 ^ 63 → signed 64 (littleEndian 8 (bytesThen 8 (unsigned 64 (z .second)) rest) 0) ≡ z .second
+second-back : (z : ZoneRecord) (rest : List ℕ) → mag (z .second) < 2 ^ 63 → twosComplement 64 (littleEndian 8 (bytesThen 8 (unsigned 64 (z .second)) rest) 0) ≡ z .second
 second-back z rest l =
-    ap (signed 64) (read-back 8 (unsigned 64 (z .second)) rest ∙ mod-eq-of-lt (unsigned-small 64 (2 ^ 63) refl refl (z .second) (omega arith) l))
+    ap (twosComplement 64) (read-back 8 (unsigned 64 (z .second)) rest ∙ mod-eq-of-lt (unsigned-small 64 (2 ^ 63) refl refl (z .second) (omega arith) l))
     ∙ signed-unsigned 64 (2 ^ 63) refl refl (z .second) l
 
-offset-back : (z : ZoneRecord) (rest : List ℕ) → mag (z .offset) < 2 ^ 31 → signed 32 (littleEndian 4 (bytesThen 4 (unsigned 32 (z .offset)) rest) 0) ≡ z .offset
+offset-back : (z : ZoneRecord) (rest : List ℕ) → mag (z .offset) < 2 ^ 31 → twosComplement 32 (littleEndian 4 (bytesThen 4 (unsigned 32 (z .offset)) rest) 0) ≡ z .offset
 offset-back z rest l =
-    ap (signed 32) (read-back 4 (unsigned 32 (z .offset)) rest ∙ mod-eq-of-lt (unsigned-small 32 (2 ^ 31) refl refl (z .offset) (omega arith) l))
+    ap (twosComplement 32) (read-back 4 (unsigned 32 (z .offset)) rest ∙ mod-eq-of-lt (unsigned-small 32 (2 ^ 31) refl refl (z .offset) (omega arith) l))
     ∙ signed-unsigned 32 (2 ^ 31) refl refl (z .offset) l
 
 module _ (z : ZoneRecord) (zs : List ZoneRecord) where
@@ -77,7 +77,7 @@ module _ (z : ZoneRecord) (zs : List ZoneRecord) where
   unfolding recordAt encoded
   first-back f g =
       let second = second-back z tail f in
-      let offset = ap (signed 32) (read-past 4 8 (unsigned 64 (z .second)) tail 0) ∙ offset-back z (encoded zs) g in
+      let offset = ap (twosComplement 32) (read-past 4 8 (unsigned 64 (z .second)) tail 0) ∙ offset-back z (encoded zs) g in
       λ j. record { second = second j; offset = offset j }
 
   -- and the others are the rest's
@@ -90,8 +90,8 @@ module _ (z : ZoneRecord) (zs : List ZoneRecord) where
   next-back : (i : ℕ) → recordAt (encoded (z ∷ zs)) (suc i) ≡ recordAt (encoded zs) i
   unfolding recordAt
   next-back i =
-      let second = ap (signed 64) (ap (littleEndian 8 (encoded (z ∷ zs))) (let k : 12 * suc i ≡ 12 + 12 * i = omega arith in k) ∙ read-next 8 (12 * i)) in
-      let offset = ap (signed 32) (ap (littleEndian 4 (encoded (z ∷ zs))) (let k : 12 * suc i + 8 ≡ 12 + (12 * i + 8) = omega arith in k) ∙ read-next 4 (12 * i + 8)) in
+      let second = ap (twosComplement 64) (ap (littleEndian 8 (encoded (z ∷ zs))) (let k : 12 * suc i ≡ 12 + 12 * i = omega arith in k) ∙ read-next 8 (12 * i)) in
+      let offset = ap (twosComplement 32) (ap (littleEndian 4 (encoded (z ∷ zs))) (let k : 12 * suc i + 8 ≡ 12 + (12 * i + 8) = omega arith in k) ∙ read-next 4 (12 * i + 8)) in
       λ j. record { second = second j; offset = offset j }
 
 -- ---- all of them

@@ -1,1 +1,1 @@
-mod Doors
+mod Calls

@@ -2,7 +2,7 @@
 // get an answer.
 use answer::Answer;
 ghost use mathlib.Core.Path.{_≡_};
-ghost use Rattle.answer.specs.Answer.{replyOf};
+ghost use Rattle.answer.specs.Answer.{answerOf};
 ghost use mathlib.Core.Bool.{true, false};
 ghost use mathlib.Core.List.{[]};
 ghost use Rattle.new_date.specs.Calls.Call.{setMilliseconds, setSeconds, setMinutes, setHours, setDate, setMonth, setFullYear};
@@ -16,10 +16,10 @@ ghost use Rattle.zovattha.specs.Call.{Answers};
 
 #[no_mangle]
 pub extern "C" fn zovattha_read(zone: &[u8], text: &[u8]) -> Answer
-    ensures { λ r. ⌜ r ≡ replyOf (readOutcome (now (zone .entry)) (now (text .entry))) ⌝ }
+    ensures { λ r. ⌜ r ≡ answerOf (readOutcome (now (zone .entry)) (now (text .entry))) ⌝ }
 {
     let reply = reader::read(zone, text);
-    answer::reply_of(reply)
+    answer::answer_of(reply)
 }
 
 #[no_mangle]
@@ -27,7 +27,7 @@ pub extern "C" fn zovattha_rewrite(zone: &[u8], text: &[u8], out: &mut [u8]) -> 
     ensures { λ r. ⌜ Answers (rewriteOutcome (now (zone .entry)) (now (text .entry)) (now (out .entry))) r (now (out .exit)) ⌝ }
 {
     let reply = rewrite::rewrite(zone, text, out);
-    answer::reply_of(reply)
+    answer::answer_of(reply)
 }
 
 // ---- writers
@@ -37,7 +37,7 @@ pub extern "C" fn zovattha_to_iso_string(time: u64, out: &mut [u8]) -> Answer
     ensures { λ r. ⌜ Answers (isoOutcome time (now (out .entry))) r (now (out .exit)) ⌝ }
 {
     let reply = writer::to_iso_string(time, out);
-    answer::reply_of(reply)
+    answer::answer_of(reply)
 }
 
 #[no_mangle]
@@ -45,7 +45,7 @@ pub extern "C" fn zovattha_to_utc_string(time: u64, out: &mut [u8]) -> Answer
     ensures { λ r. ⌜ Answers (utcOutcome time (now (out .entry))) r (now (out .exit)) ⌝ }
 {
     let reply = writer::to_utc_string(time, out);
-    answer::reply_of(reply)
+    answer::answer_of(reply)
 }
 
 // The local writer.
@@ -54,135 +54,135 @@ pub extern "C" fn zovattha_to_string(zone: &[u8], time: u64, out: &mut [u8]) -> 
     ensures { λ r. ⌜ Answers (localOutcome (now (zone .entry)) time (now (out .entry))) r (now (out .exit)) ⌝ }
 {
     let reply = writer::to_string(zone, time, out);
-    answer::reply_of(reply)
+    answer::answer_of(reply)
 }
 
 // ---- the field builder and the setters. A UTC call takes no zone list: it hands on an empty one, which nothing reads.
 
 #[no_mangle]
 pub extern "C" fn zovattha_build_utc(fields: &[u8]) -> Answer
-    ensures { λ r. ⌜ r ≡ replyOf (buildOutcome false [] (now (fields .entry))) ⌝ }
+    ensures { λ r. ⌜ r ≡ answerOf (buildOutcome false [] (now (fields .entry))) ⌝ }
 {
     let reply = fields::build(false, b"", fields);
-    answer::reply_of(reply)
+    answer::answer_of(reply)
 }
 
 #[no_mangle]
 pub extern "C" fn zovattha_build_local(zone: &[u8], fields: &[u8]) -> Answer
-    ensures { λ r. ⌜ r ≡ replyOf (buildOutcome true (now (zone .entry)) (now (fields .entry))) ⌝ }
+    ensures { λ r. ⌜ r ≡ answerOf (buildOutcome true (now (zone .entry)) (now (fields .entry))) ⌝ }
 {
     let reply = fields::build(true, zone, fields);
-    answer::reply_of(reply)
+    answer::answer_of(reply)
 }
 
 #[no_mangle]
 pub extern "C" fn zovattha_set_utc_milliseconds(time: u64, fields: &[u8]) -> Answer
-    ensures { λ r. ⌜ r ≡ replyOf (setOutcome setMilliseconds false [] time (now (fields .entry))) ⌝ }
+    ensures { λ r. ⌜ r ≡ answerOf (setOutcome setMilliseconds false [] time (now (fields .entry))) ⌝ }
 {
     let reply = fields::set_milliseconds(false, b"", time, fields);
-    answer::reply_of(reply)
+    answer::answer_of(reply)
 }
 
 #[no_mangle]
 pub extern "C" fn zovattha_set_milliseconds(zone: &[u8], time: u64, fields: &[u8]) -> Answer
-    ensures { λ r. ⌜ r ≡ replyOf (setOutcome setMilliseconds true (now (zone .entry)) time (now (fields .entry))) ⌝ }
+    ensures { λ r. ⌜ r ≡ answerOf (setOutcome setMilliseconds true (now (zone .entry)) time (now (fields .entry))) ⌝ }
 {
     let reply = fields::set_milliseconds(true, zone, time, fields);
-    answer::reply_of(reply)
+    answer::answer_of(reply)
 }
 
 #[no_mangle]
 pub extern "C" fn zovattha_set_utc_seconds(time: u64, fields: &[u8]) -> Answer
-    ensures { λ r. ⌜ r ≡ replyOf (setOutcome setSeconds false [] time (now (fields .entry))) ⌝ }
+    ensures { λ r. ⌜ r ≡ answerOf (setOutcome setSeconds false [] time (now (fields .entry))) ⌝ }
 {
     let reply = fields::set_seconds(false, b"", time, fields);
-    answer::reply_of(reply)
+    answer::answer_of(reply)
 }
 
 #[no_mangle]
 pub extern "C" fn zovattha_set_seconds(zone: &[u8], time: u64, fields: &[u8]) -> Answer
-    ensures { λ r. ⌜ r ≡ replyOf (setOutcome setSeconds true (now (zone .entry)) time (now (fields .entry))) ⌝ }
+    ensures { λ r. ⌜ r ≡ answerOf (setOutcome setSeconds true (now (zone .entry)) time (now (fields .entry))) ⌝ }
 {
     let reply = fields::set_seconds(true, zone, time, fields);
-    answer::reply_of(reply)
+    answer::answer_of(reply)
 }
 
 #[no_mangle]
 pub extern "C" fn zovattha_set_utc_minutes(time: u64, fields: &[u8]) -> Answer
-    ensures { λ r. ⌜ r ≡ replyOf (setOutcome setMinutes false [] time (now (fields .entry))) ⌝ }
+    ensures { λ r. ⌜ r ≡ answerOf (setOutcome setMinutes false [] time (now (fields .entry))) ⌝ }
 {
     let reply = fields::set_minutes(false, b"", time, fields);
-    answer::reply_of(reply)
+    answer::answer_of(reply)
 }
 
 #[no_mangle]
 pub extern "C" fn zovattha_set_minutes(zone: &[u8], time: u64, fields: &[u8]) -> Answer
-    ensures { λ r. ⌜ r ≡ replyOf (setOutcome setMinutes true (now (zone .entry)) time (now (fields .entry))) ⌝ }
+    ensures { λ r. ⌜ r ≡ answerOf (setOutcome setMinutes true (now (zone .entry)) time (now (fields .entry))) ⌝ }
 {
     let reply = fields::set_minutes(true, zone, time, fields);
-    answer::reply_of(reply)
+    answer::answer_of(reply)
 }
 
 #[no_mangle]
 pub extern "C" fn zovattha_set_utc_hours(time: u64, fields: &[u8]) -> Answer
-    ensures { λ r. ⌜ r ≡ replyOf (setOutcome setHours false [] time (now (fields .entry))) ⌝ }
+    ensures { λ r. ⌜ r ≡ answerOf (setOutcome setHours false [] time (now (fields .entry))) ⌝ }
 {
     let reply = fields::set_hours(false, b"", time, fields);
-    answer::reply_of(reply)
+    answer::answer_of(reply)
 }
 
 #[no_mangle]
 pub extern "C" fn zovattha_set_hours(zone: &[u8], time: u64, fields: &[u8]) -> Answer
-    ensures { λ r. ⌜ r ≡ replyOf (setOutcome setHours true (now (zone .entry)) time (now (fields .entry))) ⌝ }
+    ensures { λ r. ⌜ r ≡ answerOf (setOutcome setHours true (now (zone .entry)) time (now (fields .entry))) ⌝ }
 {
     let reply = fields::set_hours(true, zone, time, fields);
-    answer::reply_of(reply)
+    answer::answer_of(reply)
 }
 
 #[no_mangle]
 pub extern "C" fn zovattha_set_utc_date(time: u64, fields: &[u8]) -> Answer
-    ensures { λ r. ⌜ r ≡ replyOf (setOutcome setDate false [] time (now (fields .entry))) ⌝ }
+    ensures { λ r. ⌜ r ≡ answerOf (setOutcome setDate false [] time (now (fields .entry))) ⌝ }
 {
     let reply = fields::set_date(false, b"", time, fields);
-    answer::reply_of(reply)
+    answer::answer_of(reply)
 }
 
 #[no_mangle]
 pub extern "C" fn zovattha_set_date(zone: &[u8], time: u64, fields: &[u8]) -> Answer
-    ensures { λ r. ⌜ r ≡ replyOf (setOutcome setDate true (now (zone .entry)) time (now (fields .entry))) ⌝ }
+    ensures { λ r. ⌜ r ≡ answerOf (setOutcome setDate true (now (zone .entry)) time (now (fields .entry))) ⌝ }
 {
     let reply = fields::set_date(true, zone, time, fields);
-    answer::reply_of(reply)
+    answer::answer_of(reply)
 }
 
 #[no_mangle]
 pub extern "C" fn zovattha_set_utc_month(time: u64, fields: &[u8]) -> Answer
-    ensures { λ r. ⌜ r ≡ replyOf (setOutcome setMonth false [] time (now (fields .entry))) ⌝ }
+    ensures { λ r. ⌜ r ≡ answerOf (setOutcome setMonth false [] time (now (fields .entry))) ⌝ }
 {
     let reply = fields::set_month(false, b"", time, fields);
-    answer::reply_of(reply)
+    answer::answer_of(reply)
 }
 
 #[no_mangle]
 pub extern "C" fn zovattha_set_month(zone: &[u8], time: u64, fields: &[u8]) -> Answer
-    ensures { λ r. ⌜ r ≡ replyOf (setOutcome setMonth true (now (zone .entry)) time (now (fields .entry))) ⌝ }
+    ensures { λ r. ⌜ r ≡ answerOf (setOutcome setMonth true (now (zone .entry)) time (now (fields .entry))) ⌝ }
 {
     let reply = fields::set_month(true, zone, time, fields);
-    answer::reply_of(reply)
+    answer::answer_of(reply)
 }
 
 #[no_mangle]
 pub extern "C" fn zovattha_set_utc_full_year(time: u64, fields: &[u8]) -> Answer
-    ensures { λ r. ⌜ r ≡ replyOf (setOutcome setFullYear false [] time (now (fields .entry))) ⌝ }
+    ensures { λ r. ⌜ r ≡ answerOf (setOutcome setFullYear false [] time (now (fields .entry))) ⌝ }
 {
     let reply = fields::set_full_year(false, b"", time, fields);
-    answer::reply_of(reply)
+    answer::answer_of(reply)
 }
 
 #[no_mangle]
 pub extern "C" fn zovattha_set_full_year(zone: &[u8], time: u64, fields: &[u8]) -> Answer
-    ensures { λ r. ⌜ r ≡ replyOf (setOutcome setFullYear true (now (zone .entry)) time (now (fields .entry))) ⌝ }
+    ensures { λ r. ⌜ r ≡ answerOf (setOutcome setFullYear true (now (zone .entry)) time (now (fields .entry))) ⌝ }
 {
     let reply = fields::set_full_year(true, zone, time, fields);
-    answer::reply_of(reply)
+    answer::answer_of(reply)
 }

@@ -1,10 +1,10 @@
 //! The oracle: the date module of boa_engine 0.22.0, its text unchanged, over small shims.
 //!
-//! build.rs finds the text and lays it out; `doors` is what the harness calls. The other modules
+//! build.rs finds the text and lays it out; `exports` is what the harness calls. The other modules
 //! are the least of Boa over which that text compiles.
 #![allow(dead_code, unused, unreachable_code, deprecated, clippy::all)]
 
-pub mod doors;
+pub mod exports;
 pub mod timed;
 
 pub mod builtins;

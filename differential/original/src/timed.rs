@@ -1,9 +1,9 @@
 //! For the benchmark: the original's own calls, with all that Boa keeps around them made beforehand
 //! (the context with its host hook, the date object, the arguments as values).
 
-use crate::builtins::date::{Date, utils::doors::read};
+use crate::builtins::date::{Date, utils::exports::read};
 use crate::context::{Context, HostHooks};
-use crate::doors::{local, make};
+use crate::exports::{local, make};
 use crate::object::NativeFn;
 use crate::{JsObject, JsString, JsValue};
 use std::rc::Rc;

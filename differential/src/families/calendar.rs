@@ -4,7 +4,7 @@
 use super::Family;
 use crate::case::Case;
 use crate::inputs::{LAST, UTC, YEARS, odd_bits, time_bits};
-use crate::lower::door;
+use crate::lower::export;
 use crate::run::Run;
 use crate::whole;
 
@@ -18,7 +18,7 @@ const OF_YEAR: [&str; 3] = ["DIYR", "DFYR", "TFYR"];
 
 fn all(run: &mut Run, tags: &[&str], word: u64) {
     for tag in tags {
-        run.check(&Case::Door { door: door(tag).unwrap(), zone: &[], args: [word, 0, 0, 0] });
+        run.check(&Case::Export { export: export(tag).unwrap(), zone: &[], args: [word, 0, 0, 0] });
     }
 }
 

@@ -7,7 +7,7 @@ use crate::case::Case;
 use crate::inputs::{UTC, list_bytes};
 use crate::paper::Record;
 use crate::run::Run;
-use original::doors::Setter;
+use original::exports::Setter;
 
 pub const FAMILIES: &[Family] = &[Family { name: "differences", run: differences }];
 

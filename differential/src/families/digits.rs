@@ -2,13 +2,13 @@
 
 use super::Family;
 use crate::case::Case;
-use crate::lower::door;
+use crate::lower::export;
 use crate::run::Run;
 
 pub const FAMILIES: &[Family] = &[Family { name: "digits", run: digits }];
 
 fn call(run: &mut Run, tag: &str, a: u64, b: u64) {
-    run.check(&Case::Door { door: door(tag).unwrap(), zone: &[], args: [a, b, 0, 0] });
+    run.check(&Case::Export { export: export(tag).unwrap(), zone: &[], args: [a, b, 0, 0] });
 }
 
 /// A number's digits as a word, the first lowest.

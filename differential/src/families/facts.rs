@@ -3,10 +3,10 @@
 
 use super::Family;
 use crate::case::Case;
-use crate::lower::door;
+use crate::lower::export;
 use crate::run::Run;
 use crate::whole;
-use original::doors::{calendar, make};
+use original::exports::{calendar, make};
 
 pub const FAMILIES: &[Family] = &[
     Family { name: "fact_year_edges", run: year_edges },
@@ -41,7 +41,7 @@ fn floors(run: &mut Run) {
 /// a time.
 fn year_edges(run: &mut Run) {
     let tags = ["YFRT", "DWYR", "INLP", "MFRT", "DFRT", "DAYT", "WKDY"];
-    let doors = tags.map(|tag| door(tag).unwrap());
+    let exports = tags.map(|tag| export(tag).unwrap());
     for year in -271_821..=275_761i128 {
         let start = whole::day_number(year, 1, 1) * whole::MS_PER_DAY;
         for t in start - 1..=start + 1 {
@@ -50,9 +50,9 @@ fn year_edges(run: &mut Run) {
             run.fact(i128::from(found) == due, || format!("year of {t} is {found}"));
         }
         if year % 16 == 0 || year.abs() < 20 || (9990..10_010).contains(&year) {
-            for door in doors {
+            for export in exports {
                 let args = [(start as f64).to_bits(), 0, 0, 0];
-                run.check(&Case::Door { door, zone: &[], args });
+                run.check(&Case::Export { export, zone: &[], args });
             }
         }
     }

@@ -3,7 +3,7 @@
 use super::Family;
 use crate::case::Case;
 use crate::inputs::odd_bits;
-use crate::lower::door;
+use crate::lower::export;
 use crate::random::Random;
 use crate::run::Run;
 
@@ -15,11 +15,11 @@ const DIVISORS: [f64; 10] =
     [4.0, 7.0, 12.0, 24.0, 60.0, 100.0, 400.0, 1000.0, 86_400_000.0, 3_600_000.0];
 
 fn one(run: &mut Run, tag: &str, word: u64) {
-    run.check(&Case::Door { door: door(tag).unwrap(), zone: &[], args: [word, 0, 0, 0] });
+    run.check(&Case::Export { export: export(tag).unwrap(), zone: &[], args: [word, 0, 0, 0] });
 }
 
 fn two(run: &mut Run, tag: &str, a: u64, b: u64) {
-    run.check(&Case::Door { door: door(tag).unwrap(), zone: &[], args: [a, b, 0, 0] });
+    run.check(&Case::Export { export: export(tag).unwrap(), zone: &[], args: [a, b, 0, 0] });
 }
 
 /// Any pattern, or one of a size where whole numbers and fractions meet.

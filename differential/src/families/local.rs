@@ -4,7 +4,7 @@
 use super::Family;
 use crate::case::Case;
 use crate::inputs::{list, list_bytes, long_list, odd_bits, time_bits};
-use crate::lower::door;
+use crate::lower::export;
 use crate::paper::Record;
 use crate::run::Run;
 
@@ -12,7 +12,7 @@ pub const FAMILIES: &[Family] = &[Family { name: "local", run: local }];
 
 fn call(run: &mut Run, zone: &[u8], word: u64) {
     for tag in ["LOFF", "LOCT", "UTCT"] {
-        run.check(&Case::Door { door: door(tag).unwrap(), zone, args: [word, 0, 0, 0] });
+        run.check(&Case::Export { export: export(tag).unwrap(), zone, args: [word, 0, 0, 0] });
     }
 }
 

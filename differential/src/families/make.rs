@@ -3,7 +3,7 @@
 use super::Family;
 use crate::case::Case;
 use crate::inputs::{SPANS, field, odd_bits};
-use crate::lower::door;
+use crate::lower::export;
 use crate::run::Run;
 
 pub const FAMILIES: &[Family] = &[Family { name: "make", run: make }];
@@ -13,7 +13,7 @@ fn call(run: &mut Run, tag: &str, fields: &[f64]) {
     for (arg, x) in args.iter_mut().zip(fields) {
         *arg = x.to_bits();
     }
-    run.check(&Case::Door { door: door(tag).unwrap(), zone: &[], args });
+    run.check(&Case::Export { export: export(tag).unwrap(), zone: &[], args });
 }
 
 fn make(run: &mut Run) {

@@ -6,7 +6,7 @@ use crate::expected::expected;
 use crate::inputs::{UTC, list_bytes};
 use crate::outcome::{NAN, Outcome};
 use crate::run::Run;
-use original::doors::Setter;
+use original::exports::Setter;
 
 pub const FAMILIES: &[Family] = &[Family { name: "marked", run: marked }];
 

@@ -5,7 +5,7 @@ use super::Family;
 use crate::case::{Case, SETTERS};
 use crate::inputs::{broken_list, list, list_bytes, odd_bits, record, time_bits};
 use crate::run::Run;
-use original::doors::Setter;
+use original::exports::Setter;
 
 pub const FAMILIES: &[Family] =
     &[Family { name: "set_maps", run: maps }, Family { name: "set_random", run: random }];

@@ -80,7 +80,7 @@ fn random(run: &mut Run) {
 /// 27, UTC 29 to 32, local 33 to 36, invalid 12"; "an offset of -30 s prints -0000".
 fn parts(run: &mut Run) {
     use original::JsString;
-    use original::doors::{ZoneList, local, to_iso_string, to_utc_string};
+    use original::exports::{ZoneList, local, to_iso_string, to_utc_string};
     for _ in 0..run.times(20_000) {
         let list = list(&mut run.random);
         let zone = ZoneList::new(&list);

@@ -4,7 +4,7 @@
 use super::Family;
 use crate::case::{Case, SETTERS};
 use crate::inputs::{broken_list, list, list_bytes, long_list};
-use crate::lower::door;
+use crate::lower::export;
 use crate::paper::Record;
 use crate::run::Run;
 
@@ -24,7 +24,7 @@ fn every_call(run: &mut Run, zone: &[u8]) {
         record.extend(7.0f64.to_le_bytes());
         run.check(&Case::Set { setter, zone, time: 0, record: &record });
     }
-    run.check(&Case::Door { door: door("ZACC").unwrap(), zone, args: [0; 4] });
+    run.check(&Case::Export { export: export("ZACC").unwrap(), zone, args: [0; 4] });
 }
 
 /// Lists at each bound of the rule, accepted and one past it.
@@ -87,7 +87,7 @@ fn rule(run: &mut Run) {
 }
 
 fn lookup(run: &mut Run) {
-    let door = door("ZOFF").unwrap();
+    let export = export("ZOFF").unwrap();
     for round in 0..run.times(4000) {
         let list = match round {
             0 | 1 => long_list(&mut run.random, 1024),
@@ -96,7 +96,7 @@ fn lookup(run: &mut Run) {
         let zone = &list_bytes(&list);
         let seconds = list.iter().flat_map(|r| [r.0.saturating_sub(1), r.0, r.0.saturating_add(1)]);
         for second in seconds.chain([i64::MIN, -1, 0, 1, i64::MAX]) {
-            run.check(&Case::Door { door, zone, args: [second as u64, 0, 0, 0] });
+            run.check(&Case::Export { export, zone, args: [second as u64, 0, 0, 0] });
         }
     }
 }

@@ -5,7 +5,7 @@ use Prim.Native.Nat.{_-_, _≤_}
 use native.Mathlib.Omega.{arith}
 use lib.ListN.{length, take}
 use denote.Ref.{now}
-use Rattle.datelines.specs.Lines.{emitted, left, lent, Puts}
+use Rattle.datelines.specs.Lines.{emitted, left, lent, Appends}
 use Rattle.datelines.proofs.Bytes.{start, start-open, start-bytes, all-puts, all-open, all-bytes, more-puts, more-open, more-bytes, puts-room, chunk-room}
 use Rattle.datelines.proofs.feed.Statement.{statement}
 use Rattle.datelines.proofs.feed.Tie as tie
@@ -13,7 +13,7 @@ use Rattle.datelines.proofs.feed.Tie as tie
 abbrev Inv-loop : tie.InvT-loop
 Inv-loop chunk line₀ kept output₀ at n₀ next₀ i₀ line output n next i =
     (i ≤ length chunk) × (n ≤ 33) × (length line ≡ length line₀) × (length output ≡ length output₀)
-    × Puts output₀ at (emitted (take kept line₀) (take i chunk)) next output × (take n line ≡ left (take kept line₀) (take i chunk))
+    × Appends output₀ at (emitted (take kept line₀) (take i chunk)) next output × (take n line ≡ left (take kept line₀) (take i chunk))
     × (line ≡ lent line₀ (take kept line₀) (take i chunk))
 
 abbrev μ-loop : tie.MeasureT-loop

@@ -1,6 +1,6 @@
 -- `process_4` computes what `join4` says of any block. Assumes nothing.
 use borrow.Author.Needs.{needs}
-use Rattle.fast_atoi.specs.Join.{join4, pairs4}
+use Rattle.fast_atoi.specs.Contracts.{join4, pairs4}
 use Rattle.fast_atoi.proofs.process_4.Statement.{statement}
 use Rattle.fast_atoi.proofs.process_4.Tie as tie
 

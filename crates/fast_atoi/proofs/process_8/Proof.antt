@@ -1,6 +1,6 @@
 -- `process_8` computes what `join8` says of any block. Assumes nothing.
 use borrow.Author.Needs.{needs}
-use Rattle.fast_atoi.specs.Join.{join8, fours8, pairs8}
+use Rattle.fast_atoi.specs.Contracts.{join8, fours8, pairs8}
 use Rattle.fast_atoi.proofs.process_8.Statement.{statement}
 use Rattle.fast_atoi.proofs.process_8.Tie as tie
 

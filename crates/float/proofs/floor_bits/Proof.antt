@@ -4,7 +4,7 @@ use mathlib.Core.Path.{_≡_, sym, ap, _∙_, subst}
 use mathlib.Core.Logic.{⊎-elim, inl, inr}
 use Prim.Native.Nat.{ℕ, _^_, _<_}
 use lib.Ieee.{binary64, ofBits}
-use Rattle.float.specs.Patterns.{fractionBits}
+use Rattle.float.specs.Contracts.{fractionBits}
 use Rattle.float.proofs.Clearing.{fraction, fraction-lt, Floor, floor-bits, Below, floor-kept, floor-one, floor-sum}
 use Rattle.float.proofs.floor_bits.Statement.{statement}
 use Rattle.float.proofs.floor_bits.Tie as tie

@@ -7,7 +7,7 @@ use mathlib.Core.Bool.{false}
 use native.Mathlib.Omega.{arith}
 use lib.Pow.{pow-pos}
 use lib.Ieee.{binary64, ofBits, round}
-use Rattle.float.specs.Patterns.{place}
+use Rattle.float.specs.Contracts.{place}
 use Rattle.float.proofs.Clearing.{lead-lt}
 use Rattle.float.proofs.Digits.{divisor-lt, divisor-pos, place-lt, place-lt', rem-less, part-pos, split-at}
 use Rattle.float.proofs.rem_bits.Statement.{statement}

@@ -4,7 +4,7 @@ use mathlib.Core.Path.{_≡_, refl, sym, ap, ap₂, _∙_, subst}
 use mathlib.Core.Bool.{not}
 use lib.Dec.{T}
 use lib.Ieee.{Float, binary64, fits, isNan, rem, ofBits, toBits}
-use Rattle.float.specs.Patterns.{lead, place}
+use Rattle.float.specs.Contracts.{lead, place}
 use Rattle.float.proofs.Special.{made-nan}
 use Rattle.float.proofs.Patterns.{is-nan, is-number, no-nan, bits-lt, bits-back}
 use Rattle.float.proofs.Digits.{rem-by-nan, rem-of-inf, rem-by-zero, rem-by-inf, is-inf, is-zero, finite, rem-is, round-number}

@@ -3,7 +3,7 @@ use borrow.Author.Needs.{needs}
 use mathlib.Core.Path.{_≡_, sym, ap, _∙_, subst}
 use Prim.Native.Nat.{ℕ, _<_}
 use lib.Ieee.{binary64, ofBits}
-use Rattle.float.specs.Patterns.{fractionBits}
+use Rattle.float.specs.Contracts.{fractionBits}
 use Rattle.float.proofs.Clearing.{cut, fraction, fraction-lt, trunc-bits}
 use Rattle.float.proofs.trunc_bits.Statement.{statement}
 use Rattle.float.proofs.trunc_bits.Tie as tie

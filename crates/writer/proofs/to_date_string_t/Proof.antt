@@ -3,7 +3,7 @@ use borrow.Author.Needs.{needs}
 use mathlib.Core.Path.{ap, _∙_}
 use Prim.Native.Nat.{ℕ}
 use denote.Ref.{now}
-use Rattle.writer.specs.Fields.{IsShown, replied}
+use Rattle.writer.specs.Contracts.{IsShown, replied}
 use Rattle.writer.proofs.Written.{prints-leaves, prints-as, fields-printable}
 use Rattle.writer.proofs.Local.{local-is-shown, offset-printable, local-text}
 use Rattle.writer.proofs.to_date_string_t.Statement.{statement}

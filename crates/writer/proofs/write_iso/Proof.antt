@@ -2,7 +2,7 @@
 use borrow.Author.Needs.{needs}
 use mathlib.Core.Path.{_∙_, ap}
 use Prim.Native.Nat.{ℕ}
-use Rattle.writer.specs.Fields.{replied}
+use Rattle.writer.specs.Contracts.{replied}
 use Rattle.writer.proofs.Written.{prints-leaves, prints-as, fields-printable, iso-of-time}
 use Rattle.writer.proofs.write_iso.Statement.{statement}
 use Rattle.writer.proofs.write_iso.Tie as tie

@@ -1,17 +1,17 @@
 -- `zovattha::zovattha_set_hours` meets its contract. Assumes nothing.
 use borrow.Author.Needs.{needs}
-use Rattle.zovattha.proofs.Doors.{replied}
+use Rattle.zovattha.proofs.Calls.{replied}
 use Rattle.zovattha.proofs.zovattha_set_hours.Statement.{statement}
 use Rattle.zovattha.proofs.zovattha_set_hours.Tie as tie
 
 set-hours-requires : tie.Need-set-hours-requires
 set-hours-requires c κs = search needs
 
-reply-of-requires : tie.Need-reply-of-requires
-reply-of-requires c κs = search needs
+answer-of-requires : tie.Need-answer-of-requires
+answer-of-requires c κs = search needs
 
 returns : tie.Need-returns
-returns c = replied (c .reply-of .ensures) (c .before .set-hours .ensures)
+returns c = replied (c .answer-of .ensures) (c .before .set-hours .ensures)
 
 pub zovattha-set-hours-spec : {M : Type 1} → statement M
-zovattha-set-hours-spec = tie.close (tie.spec set-hours-requires reply-of-requires returns)
+zovattha-set-hours-spec = tie.close (tie.spec set-hours-requires answer-of-requires returns)

@@ -1,18 +1,18 @@
 -- `zovattha::zovattha_set_milliseconds` meets its contract. Assumes nothing.
 use borrow.Author.Needs.{needs}
-use Rattle.zovattha.proofs.Doors.{replied}
+use Rattle.zovattha.proofs.Calls.{replied}
 use Rattle.zovattha.proofs.zovattha_set_milliseconds.Statement.{statement}
 use Rattle.zovattha.proofs.zovattha_set_milliseconds.Tie as tie
 
 set-milliseconds-requires : tie.Need-set-milliseconds-requires
 set-milliseconds-requires c κs = search needs
 
-reply-of-requires : tie.Need-reply-of-requires
-reply-of-requires c κs = search needs
+answer-of-requires : tie.Need-answer-of-requires
+answer-of-requires c κs = search needs
 
 returns : tie.Need-returns
-returns c = replied (c .reply-of .ensures) (c .before .set-milliseconds .ensures)
+returns c = replied (c .answer-of .ensures) (c .before .set-milliseconds .ensures)
 
 pub zovattha-set-milliseconds-spec : {M : Type 1} → statement M
 zovattha-set-milliseconds-spec =
-    tie.close (tie.spec set-milliseconds-requires reply-of-requires returns)
+    tie.close (tie.spec set-milliseconds-requires answer-of-requires returns)

@@ -1,17 +1,17 @@
 -- `zovattha::zovattha_set_month` meets its contract. Assumes nothing.
 use borrow.Author.Needs.{needs}
-use Rattle.zovattha.proofs.Doors.{replied}
+use Rattle.zovattha.proofs.Calls.{replied}
 use Rattle.zovattha.proofs.zovattha_set_month.Statement.{statement}
 use Rattle.zovattha.proofs.zovattha_set_month.Tie as tie
 
 set-month-requires : tie.Need-set-month-requires
 set-month-requires c κs = search needs
 
-reply-of-requires : tie.Need-reply-of-requires
-reply-of-requires c κs = search needs
+answer-of-requires : tie.Need-answer-of-requires
+answer-of-requires c κs = search needs
 
 returns : tie.Need-returns
-returns c = replied (c .reply-of .ensures) (c .before .set-month .ensures)
+returns c = replied (c .answer-of .ensures) (c .before .set-month .ensures)
 
 pub zovattha-set-month-spec : {M : Type 1} → statement M
-zovattha-set-month-spec = tie.close (tie.spec set-month-requires reply-of-requires returns)
+zovattha-set-month-spec = tie.close (tie.spec set-month-requires answer-of-requires returns)

@@ -1,6 +1,6 @@
 -- `zovattha::zovattha_set_utc_milliseconds` meets its contract. Assumes nothing.
 use borrow.Author.Needs.{needs}
-use Rattle.zovattha.proofs.Doors.{replied}
+use Rattle.zovattha.proofs.Calls.{replied}
 use Rattle.zovattha.proofs.zovattha_set_utc_milliseconds.Statement.{statement}
 use Rattle.zovattha.proofs.zovattha_set_utc_milliseconds.Tie as tie
 
@@ -10,13 +10,13 @@ slice-aggregate-set-milliseconds c = search needs
 set-milliseconds-requires : tie.Need-set-milliseconds-requires
 set-milliseconds-requires c κs = search needs
 
-reply-of-requires : tie.Need-reply-of-requires
-reply-of-requires c κs = search needs
+answer-of-requires : tie.Need-answer-of-requires
+answer-of-requires c κs = search needs
 
 returns : tie.Need-returns
-returns c = replied (c .reply-of .ensures) (c .before .set-milliseconds .ensures)
+returns c = replied (c .answer-of .ensures) (c .before .set-milliseconds .ensures)
 
 pub zovattha-set-utc-milliseconds-spec : {M : Type 1} → statement M
 zovattha-set-utc-milliseconds-spec =
     tie.close
-    (tie.spec slice-aggregate-set-milliseconds set-milliseconds-requires reply-of-requires returns)
+    (tie.spec slice-aggregate-set-milliseconds set-milliseconds-requires answer-of-requires returns)

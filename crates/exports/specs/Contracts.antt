@@ -1,4 +1,4 @@
--- What a test door answers: every argument and every result is one word of 64 bits. Definitions only. Assumes nothing.
+-- What an export answers: every argument and every result is one word of 64 bits. Definitions only. Assumes nothing.
 use mathlib.Core.Path.{_≡_}
 use mathlib.Core.Bool.{cond}
 use mathlib.Core.List.{List, [], _∷_}

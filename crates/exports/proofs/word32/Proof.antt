@@ -1,10 +1,10 @@
--- `doors::word32` meets its contract. Assumes nothing.
+-- `exports::word32` meets its contract. Assumes nothing.
 use borrow.Author.Needs.{needs}
 use mathlib.Core.Path.{ap, _∙_}
 use mir.Facts.{toZ-ofZ, sfits-widen, sfits-toZ, fits-ofZ}
-use Rattle.doors.specs.Door.{word}
-use Rattle.doors.proofs.word32.Statement.{statement}
-use Rattle.doors.proofs.word32.Tie as tie
+use Rattle.exports.specs.Contracts.{word}
+use Rattle.exports.proofs.word32.Statement.{statement}
+use Rattle.exports.proofs.word32.Tie as tie
 
 cast-word : tie.Need-cast-word
 cast-word c = sfits-widen tt (sfits-toZ (fits-ofZ (c .fits .z)))

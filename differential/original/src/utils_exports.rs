@@ -1,11 +1,11 @@
-// Stands below the unchanged text of date/utils.rs: public doors to its functions, under their own names.
+// Stands below the unchanged text of date/utils.rs: its functions made public, under their own names.
 
-pub mod doors {
+pub mod exports {
     use crate::builtins::date::utils;
     use crate::{JsString, context::HostHooks};
 
     /// For each row a function that hands its arguments to the original's own.
-    macro_rules! doors {
+    macro_rules! exports {
         ($from:path: $($name:ident($($arg:ident: $type:ty),*) -> $out:ty;)*) => {
             $(pub fn $name($($arg: $type),*) -> $out {
                 use $from as from;
@@ -32,7 +32,7 @@ pub mod doors {
         pub fn date_parser(text: &str, hooks: &dyn HostHooks) -> Option<i64> {
             utils::DateParser::new(text, hooks).parse()
         }
-        doors! { utils:
+        exports! { utils:
             parse_date(date: &JsString, hooks: &dyn HostHooks) -> Option<i64>;
         }
     }
@@ -40,7 +40,7 @@ pub mod doors {
     /// The calendar.
     pub mod calendar {
         use super::*;
-        doors! { utils:
+        exports! { utils:
             day(t: f64) -> f64;
             time_within_day(t: f64) -> f64;
             days_in_year(y: f64) -> u16;
@@ -62,7 +62,7 @@ pub mod doors {
     /// The makers.
     pub mod make {
         use super::*;
-        doors! { utils:
+        exports! { utils:
             make_time(hour: f64, min: f64, sec: f64, ms: f64) -> f64;
             make_day(year: f64, month: f64, date: f64) -> f64;
             make_date(day: f64, time: f64) -> f64;
@@ -74,7 +74,7 @@ pub mod doors {
     /// Local time and back, and the parts of the local text.
     pub mod local {
         use super::*;
-        doors! { utils:
+        exports! { utils:
             local_timezone_offset_seconds(t: f64, hooks: &dyn HostHooks) -> i32;
             local_time(t: f64, hooks: &dyn HostHooks) -> f64;
             utc_t(t: f64, hooks: &dyn HostHooks) -> f64;
@@ -88,7 +88,7 @@ pub mod doors {
     /// Digits in and out.
     pub mod digits {
         use super::*;
-        doors! { utils::fast_atoi:
+        exports! { utils::fast_atoi:
             process_4(val: u32, len: usize) -> u32;
             process_8(val: u64, len: usize) -> u64;
         }

@@ -1,7 +1,7 @@
--- `answer::reply_of` meets its contract: each arm is the case of `replyOf` that it matched. Assumes nothing.
+-- `answer::answer_of` meets its contract: each arm is the case of `answerOf` that it matched. Assumes nothing.
 use borrow.Author.Needs.{needs}
-use Rattle.answer.proofs.reply_of.Statement.{statement}
-use Rattle.answer.proofs.reply_of.Tie as tie
+use Rattle.answer.proofs.answer_of.Statement.{statement}
+use Rattle.answer.proofs.answer_of.Tie as tie
 
 enum-known-a : tie.Need-enum-known-a
 enum-known-a c = search needs
@@ -24,8 +24,8 @@ returns-2 c = rw (c .before .a2 .given .1) (search needs)
 returns-3 : tie.Need-returns-3
 returns-3 c = rw (c .before .before .a3 .given .1, c .refusal-number .ensures)
 
-pub reply-of-spec : {M : Type 1} → statement M
-reply-of-spec =
+pub answer-of-spec : {M : Type 1} → statement M
+answer-of-spec =
     tie.close
     (tie.spec
     enum-known-a

@@ -1,14 +1,14 @@
-//! The oracle's public doors. Every answer comes from the original's own text.
+//! What the oracle exports. Every answer comes from the original's own text.
 
 use crate::builtins::BuiltInConstructor;
-use crate::builtins::date::{Date, utils::doors::read};
+use crate::builtins::date::{Date, utils::exports::read};
 use crate::context::{Context, HostHooks};
 use crate::object::NativeFn;
 use crate::{JsObject, JsResult, JsStr, JsString, JsValue};
 use std::rc::Rc;
 
 /// The functions of date/utils.rs, under their own names.
-pub use crate::builtins::date::utils::doors::{calendar, digits, local, make};
+pub use crate::builtins::date::utils::exports::{calendar, digits, local, make};
 
 /// Document 01's zone list as a host hook: seconds rising, each with its offset in seconds.
 #[derive(Clone, Debug)]

@@ -1,12 +1,12 @@
--- `doors::word` meets its contract. Assumes nothing.
+-- `exports::word` meets its contract. Assumes nothing.
 use native.Mathlib.Omega.{arith}
 use lib.IntN.{pos}
 use lib.Signed.{_<ℤ_, yes-nonNeg}
 use mir.Facts.{toZ-ofZ, fits-natAbs}
 use Rattle.integers.proofs.Machine.{below-zero, from-zero, flip-nonneg, flip-fits}
-use Rattle.doors.proofs.Words.{flipped, plain}
-use Rattle.doors.proofs.word.Statement.{statement}
-use Rattle.doors.proofs.word.Tie as tie
+use Rattle.exports.proofs.Words.{flipped, plain}
+use Rattle.exports.proofs.word.Statement.{statement}
+use Rattle.exports.proofs.word.Tie as tie
 
 negative : (c : tie.Then1) → c .before .args .z <ℤ pos 0
 negative c = below-zero (c .before .fits .z) (c .if1 .taken)

@@ -1,4 +1,4 @@
--- `doors::doors_zone_offset` meets its contract. Assumes nothing.
+-- `exports::exports_zone_offset` meets its contract. Assumes nothing.
 use borrow.Author.Needs.{needs}
 use borrow.Author.Tests.{not-true, not-false}
 use mathlib.Core.Path.{_≡_, sym, ap, _∙_}
@@ -6,12 +6,12 @@ use mathlib.Core.Bool.{true}
 use denote.Ref.{now}
 use mir.Syntax.{w32, w64}
 use mir.Facts.{toZ-ofZ}
-use Rattle.doors.specs.Door.{word}
+use Rattle.exports.specs.Contracts.{word}
 use Rattle.zone.specs.Zone.{offsetAt, accepts}
 use Rattle.zone.proofs.Rule.{accepts-sound}
-use Rattle.doors.proofs.Lists.{refused, accepted}
-use Rattle.doors.proofs.doors_zone_offset.Statement.{statement}
-use Rattle.doors.proofs.doors_zone_offset.Tie as tie
+use Rattle.exports.proofs.Lists.{refused, accepted}
+use Rattle.exports.proofs.exports_zone_offset.Statement.{statement}
+use Rattle.exports.proofs.exports_zone_offset.Tie as tie
 
 accept-requires : tie.Need-accept-requires
 accept-requires c κs = search needs
@@ -35,5 +35,5 @@ word32-requires c κs = search needs
 returns-2 : tie.Need-returns-2
 returns-2 c = c .word32 .ensures ∙ ap word (toZ-ofZ {w = w32} (record { sfits = c .before .lookup .ok }) ∙ c .before .lookup .ensures ∙ ap (offsetAt _) (toZ-ofZ {w = w64} (record { sfits = c .before .before .signed64 .ok }) ∙ c .before .before .signed64 .ensures)) ∙ accepted _ _ (is-accepted (c .before .before .before))
 
-pub doors-zone-offset-spec : {M : Type 1} → statement M
-doors-zone-offset-spec = tie.close (tie.spec accept-requires returns signed64-requires lookup-requires word32-requires returns-2)
+pub exports-zone-offset-spec : {M : Type 1} → statement M
+exports-zone-offset-spec = tie.close (tie.spec accept-requires returns signed64-requires lookup-requires word32-requires returns-2)

@@ -1,4 +1,4 @@
--- What the doors' records say is the plain equation, and both halves of a whole number's word. Assumes nothing.
+-- What the exports' records say is the plain equation, and both halves of a whole number's word. Assumes nothing.
 use mathlib.Core.Path.{_≡_, refl, ap, subst, _∙_}
 use mathlib.Core.List.{List}
 use Prim.Native.Nat.{ℕ, _-_}
@@ -10,7 +10,7 @@ use lib.Signed.{_≤ℤ_, _<ℤ_}
 use Rattle.integers.proofs.Int.{ints}
 use Rattle.integers.proofs.Machine.{flip}
 use Rattle.little_endian.specs.Bytes.{littleEndian}
-use Rattle.doors.specs.Door.{Given, Handed, Whole, Packed, word, eightZeros}
+use Rattle.exports.specs.Contracts.{Given, Handed, Whole, Packed, word, eightZeros}
 
 pub given : {n : ℕ} {P : Float → Type 0} → Given n P → P (ofBits binary64 n)
 given {P = P} g = subst P (g .taken) (g .holds)

@@ -4,7 +4,7 @@ use mathlib.Core.Bool.{Bool, true, false, cond}
 use mathlib.Core.List.{List}
 use Prim.Native.Nat.{ℕ}
 use Rattle.zone.specs.Zone.{accepts}
-use Rattle.doors.specs.Door.{underList}
+use Rattle.exports.specs.Contracts.{underList}
 
 module _ (zone : List ℕ) (r : ℕ) where
   pub refused : accepts zone ≡ false → 0 ≡ underList zone r

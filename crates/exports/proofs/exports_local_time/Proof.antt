@@ -1,4 +1,4 @@
--- `doors::doors_local_time` meets its contract. Assumes nothing.
+-- `exports::exports_local_time` meets its contract. Assumes nothing.
 use borrow.Author.Needs.{needs}
 use borrow.Author.Tests.{not-true, not-false}
 use mathlib.Core.Path.{_≡_, sym, ap, _∙_}
@@ -8,9 +8,9 @@ use lib.Ieee.{binary64, toBits}
 use Rattle.local.specs.Local.{localTimeF}
 use Rattle.zone.specs.Zone.{accepts}
 use Rattle.zone.proofs.Rule.{accepts-sound}
-use Rattle.doors.proofs.Lists.{refused, accepted}
-use Rattle.doors.proofs.doors_local_time.Statement.{statement}
-use Rattle.doors.proofs.doors_local_time.Tie as tie
+use Rattle.exports.proofs.Lists.{refused, accepted}
+use Rattle.exports.proofs.exports_local_time.Statement.{statement}
+use Rattle.exports.proofs.exports_local_time.Tie as tie
 
 accept-requires : tie.Need-accept-requires
 accept-requires c κs = search needs
@@ -34,5 +34,5 @@ bits-of-requires c κs = search needs
 returns-2 : tie.Need-returns-2
 returns-2 c = c .bits-of .ensures ∙ ap (toBits binary64) (c .before .local-time .ensures ∙ ap (localTimeF _) (c .before .before .of-bits .ensures)) ∙ accepted _ _ (is-accepted (c .before .before .before))
 
-pub doors-local-time-spec : {M : Type 1} → statement M
-doors-local-time-spec = tie.close (tie.spec accept-requires returns of-bits-requires local-time-requires bits-of-requires returns-2)
+pub exports-local-time-spec : {M : Type 1} → statement M
+exports-local-time-spec = tie.close (tie.spec accept-requires returns of-bits-requires local-time-requires bits-of-requires returns-2)
