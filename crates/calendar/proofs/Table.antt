@@ -6,15 +6,15 @@ use mathlib.Core.List.{List, [], _∷_}
 use Prim.Native.Nat.{ℕ, _+_, _*_, _-_, _/_, _≤_, _<_}
 use native.Mathlib.Omega.{arith}
 use borrow.Author.Tests.{le-ltb}
-use lib.Dec.{eqb, eqb→eq, ltb, ltb→lt, nltb→le, lit≤}
+use lib.Dec.{eqb, eqb→eq, ltb, ltb→lt, nltb→le, lit≤, lit<}
 use lib.IntN.{pos, natAbs}
 use lib.ListN.{getD}
 use lib.Signed.{ltZ}
 use lib.Ieee.{Float, binary64, ofInt}
 use Rattle.ecma262.specs.Date.{daysBefore, monthOf, dateOf}
-use Rattle.integers.proofs.Int.{ints, by-test, by-cond, at, _-ᵗ_, read}
+use Rattle.integers.proofs.Int.{by-test, by-cond}
 use Rattle.integers.proofs.Table.{all, all-at}
-use Rattle.ecma262.proofs.Months.{each-month, month-from, month-date, month-small}
+use Rattle.ecma262.proofs.Months.{each-month, date-from, month-from, month-small}
 use Rattle.calendar.specs.Calendar.{daysInYearF, yearFromTimeF, inLeapYearF}
 
 unfoldable pub entries : List ℕ
@@ -48,28 +48,24 @@ month-late leap d h k =
     ∙ passed d (151 + leap) 4 _ (omega arith) ∙ passed d (181 + leap) 5 _ (omega arith) ∙ passed d (212 + leap) 6 _ (omega arith) ∙ passed d (243 + leap) 7 _ (omega arith)
     ∙ passed d (273 + leap) 8 _ (omega arith) ∙ passed d (304 + leap) 9 _ (omega arith) ∙ passed d (334 + leap) 10 11 (omega arith)
 
-december : (leap d : ℕ) → leap ≤ 1 → 365 + leap ≤ d → (daysBefore leap 11 ≤ d) × (dateOf leap (pos d) 11 ≡ pos (d + 1 - daysBefore leap 11)) × (11 < 12)
-unfolding dateOf daysBefore
-december leap d h k = (omega arith, omega (ints, read (at (pos d) -ᵗ at (pos 333) -ᵗ at (pos leap))), omega arith)
-
--- the date is counted from the first of the month, for every d
-pub date-by-month : (leap d : ℕ) → leap ≤ 1
-    → (daysBefore leap (monthOf leap (pos d)) ≤ d) × (dateOf leap (pos d) (monthOf leap (pos d)) ≡ pos (d + 1 - daysBefore leap (monthOf leap (pos d)))) × (monthOf leap (pos d) < 12)
-date-by-month leap d h =
+-- the month that monthOf says starts by the day d, for every d
+pub month-by-then : (leap d : ℕ) → leap ≤ 1 → (daysBefore leap (monthOf leap (pos d)) ≤ d) × (monthOf leap (pos d) < 12)
+unfolding daysBefore
+month-by-then leap d h =
     by-test (ltb d (365 + leap))
-    (λ c. let k : d < 365 + leap = ltb→lt d (365 + leap) c in (month-from leap d h k, month-date leap d h k, month-small leap d h k))
+    (λ c. let k : d < 365 + leap = ltb→lt d (365 + leap) c in (month-from leap d h k, month-small leap d h k))
     (λ c. let k : 365 + leap ≤ d = nltb→le d (365 + leap) c in
-    subst (λ m. (daysBefore leap m ≤ d) × (dateOf leap (pos d) m ≡ pos (d + 1 - daysBefore leap m)) × (m < 12)) (sym (month-late leap d h (omega arith))) (december leap d h k))
+    subst (λ m. (daysBefore leap m ≤ d) × (m < 12)) (sym (month-late leap d h (omega arith))) (omega arith, lit< tt))
 
 -- in_leap_year is 0 or 1
 pub leap-flag : (t : Float) → inLeapYearF t ≤ 1
 unfolding inLeapYearF
 leap-flag t = by-cond (λ n. n ≤ 1) (eqb (daysInYearF (ofInt binary64 (yearFromTimeF t))) 366) 1 0 (λ _. lit≤ tt) (λ _. lit≤ tt)
 
--- the same, as the code has it: of the month m and the days b before it
+-- the date, as the code has it: of the month m and the days b before it
 pub date-number : (leap d m b : ℕ) → leap ≤ 1 → m ≡ monthOf leap (pos d) → b ≡ daysBefore leap m
     → (b ≤ d) × (m < 12) × (natAbs (dateOf leap (pos d) (monthOf leap (pos d))) ≡ d - b + 1)
 date-number leap d m b h e f =
-    let w = date-by-month leap d h in
+    let w = month-by-then leap d h in
     let g : b ≡ daysBefore leap (monthOf leap (pos d)) = f ∙ ap (daysBefore leap) e in
-    (omega (arith, w .0), omega (arith, w .2), ap natAbs (w .1) ∙ omega (arith, w .0))
+    (omega (arith, w .0), omega (arith, w .1), ap natAbs (date-from leap d (monthOf leap (pos d)) (w .0)) ∙ omega (arith, w .0))

@@ -5,7 +5,7 @@ use Prim.Native.Nat.{ℕ, _+_, _≤_}
 use native.Mathlib.Nat.{add-assoc, add-zero}
 use lib.ListN.{length, take, drop, length-append}
 use lib.Seq.{sets-eq, drop-drop}
-use Rattle.text.specs.Output.{Puts}
+use Rattle.text.specs.Contracts.{Puts}
 use Rattle.text.proofs.Runs.{sets-join}
 use Rattle.datelines.specs.Lines.{Appends}
 

@@ -7,7 +7,7 @@ use lib.IntN.{ℤ}
 use lib.Ieee.{Float, binary64, ofBits, toBits}
 use mir.Syntax.{w64}
 use mir.Val.{ofZ}
-use Rattle.text.specs.Output.{Puts}
+use Rattle.text.specs.Contracts.{Puts}
 use Rattle.little_endian.specs.Bytes.{littleEndian}
 use Rattle.zone.specs.Zone.{accepts}
 

@@ -1,22 +1,23 @@
 -- `isWholeWithin` is `WholeWithin`, both ways, for every bound to 2^53: what equals its own whole part is a whole number. A number equals its whole
--- part where the two have one pattern. Assumes nothing.
+-- part where the two have one pattern. With +0 for -0 it is the f64 of its whole number. Assumes nothing.
 use mathlib.Core.Path.{_≡_, refl, sym, ap, _∙_, subst}
-use mathlib.Core.Bool.{Bool, true, false, not, _&&_, _||_, Bool·beq, true≢false, false≢true}
-use Prim.Native.Nat.{ℕ, _*_, _^_, _≤_, _<_}
+use mathlib.Core.Bool.{Bool, true, false, not, cond, _&&_, _||_, Bool·beq, true≢false, false≢true}
+use Prim.Native.Nat.{ℕ, zero, suc, _*_, _^_, _≤_, _<_}
 use native.Mathlib.Nat.{mul-one, mul-right-comm, eq-of-mul-eq-mul-right}
-use lib.Dec.{T, eqb, eqb→eq, leb→le, le→leb}
-use lib.IntN.{ℤ, pos}
+use lib.Dec.{T, eqb, eqb→eq, leb→le, le→leb, lit≤}
+use lib.IntN.{ℤ, pos, negsuc, natAbs}
 use lib.Signed.{leZ-yes}
 use lib.Ieee.{Float, nan, inf, fin, binary64, up, down, level, ofInt, ofBits, toBits, isNan, lt, eq, le, ne, fits}
 use lib.Ieee.Bits.{is-true, toBits-ofBits}
-use lib.Ieee.Fits.{eq→eqb, and-l, and-r, down-pos}
+use lib.Ieee.Fits.{eq→eqb, and-l, and-r, down-pos, ofInt-fits}
+use Rattle.integers.proofs.Int.{ints}
 use Rattle.float.specs.Whole.{signed, IsWhole, WholeWithin}
-use Rattle.float.specs.Rounding.{truncF, absF, isWholeWithin}
+use Rattle.float.specs.Rounding.{truncF, absF, isWholeWithin, plusZero}
 use Rattle.float.proofs.Fractions.{same-test}
 use Rattle.float.proofs.Patterns.{bits-back}
-use Rattle.float.proofs.Whole.{ofInt-whole, zero-factor, zero-signed}
+use Rattle.float.proofs.Whole.{ofInt-whole, unique, zero-factor, zero-signed}
 use Rattle.float.proofs.Rounding.{trunc-whole, trunc-own, abs-whole, whole-finite}
-use Rattle.float.proofs.Order.{eq-holds, le-yes, le-holds}
+use Rattle.float.proofs.Order.{eq-yes, eq-no, eq-holds, le-yes, le-holds}
 use Rattle.float.proofs.Special.{nan-test, eq-nan-right}
 
 -- ---- what equals a whole number is that number, -0 too
@@ -111,3 +112,21 @@ module _ (n : ℕ) (small : n ≤ 2 ^ 53) where
       let p = both (eq (truncF x) x) _ t in
       let w = same-whole (truncF x) x (trunc-whole x h tt) (p .0) in
       record { whole = w; size = leb→le _ _ (le-yes (abs-whole w) bound (p .1) .le) }
+
+-- ---- +0 for a zero: of a whole number it is the f64 of that number
+abs-zero : (z : ℤ) → pos (natAbs z) ≡ pos 0 → z ≡ pos 0
+abs-zero (pos zero) e = refl
+abs-zero (pos (suc n)) e = absurd (omega (ints, e))
+abs-zero (negsuc n) e = absurd (omega (ints, e))
+
+pub plus-zero-whole : {x : Float} {z : ℤ} → T (fits binary64 x) → IsWhole x z → natAbs z ≤ 2 ^ 53 → plusZero x ≡ ofInt binary64 z
+plus-zero-whole {x} {z} h w b = go (eq (absF x) (ofInt binary64 (pos 0))) refl
+  where
+    o : IsWhole (ofInt binary64 (pos 0)) (pos 0)
+    o = ofInt-whole binary64 (pos 0) (lit≤ tt)
+
+    go : (t : Bool) → eq (absF x) (ofInt binary64 (pos 0)) ≡ t → plusZero x ≡ ofInt binary64 z
+    go true e = ap (λ c. cond c (ofInt binary64 (pos 0)) x) e ∙ ap (ofInt binary64) (sym (abs-zero z (eq-yes (abs-whole w) o e)))
+    go false e =
+        ap (λ c. cond c (ofInt binary64 (pos 0)) x) e
+        ∙ unique binary64 h (ofInt-fits binary64 z) w (ofInt-whole binary64 z b) (λ k. eq-no (abs-whole w) o e (ap (λ y. pos (natAbs y)) k))

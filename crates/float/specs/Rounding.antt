@@ -1,6 +1,7 @@
 -- What Rust's `floor`, `trunc`, `abs`, `copysign` and `rem_euclid` of an `f64` are, and ECMA-262's ToIntegerOrInfinity, over the values of
 -- logic/Lib/Ieee.antt. Definitions only.
 use mathlib.Core.Bool.{Bool, false, cond, _&&_}
+use lib.IntN.{pos}
 use lib.Ieee.{Float, nan, inf, fin, binary64, ofInt, ofBits, add, rem, lt, le, eq}
 use Rattle.float.specs.Whole.{floorZ, truncZ}
 
@@ -54,3 +55,7 @@ toIntegerOrInfinity (fin s m e) = ofInt binary64 (truncZ (fin s m e))
 -- Whether x is a whole number, and no larger than `most` either way: its own whole part. An infinity is larger; a NaN equals nothing.
 unfoldable pub isWholeWithin : Float → Float → Bool
 isWholeWithin most x = eq (truncF x) x && le (absF x) most
+
+-- x, but +0 for either zero: "-0 counts as 0"
+abbrev pub plusZero : Float → Float
+plusZero x = cond (eq (absF x) (ofInt binary64 (pos 0))) (ofInt binary64 (pos 0)) x

@@ -17,32 +17,14 @@ use Rattle.integers.proofs.Machine.{true-T}
 use Rattle.ecma262.proofs.Range.{clip-inside, clip-outside}
 use Rattle.float.specs.Whole.{IsWhole, truncZ}
 use Rattle.float.specs.Rounding.{truncF, absF, isWholeWithin}
-use Rattle.float.proofs.Within.{within-is}
+use Rattle.float.proofs.Within.{within-is, plus-zero-whole}
 use Rattle.float.proofs.Whole.{ofInt-whole, round-is-whole, unique, plain-nonzero, int-unique}
 use Rattle.float.proofs.Rounding.{wholeNumber, trunc-value, trunc-whole, trunc-fits, abs-whole, whole-finite}
 use Rattle.float.proofs.Order.{lt-holds, lt-fails, eq-yes, eq-no, trunc-bounded}
 use Rattle.calendar.specs.Calendar.{num}
 use Rattle.calendar.proofs.Whole.{num-whole}
-use Rattle.make.specs.Make.{plainZero, timeClipF, timeValue, IsTimeValue, no-time, time}
+use Rattle.make.specs.Make.{timeClipF, timeValue, IsTimeValue, no-time, time}
 use Rattle.make.proofs.Tests.{clip-not-finite, clip-beyond, clip-within}
-
--- ---- a whole number, but +0 for -0: the f64 of it
-abs-zero : (z : ℤ) → pos (natAbs z) ≡ pos 0 → z ≡ pos 0
-abs-zero (pos zero) e = refl
-abs-zero (pos (suc n)) e = absurd (omega (ints, e))
-abs-zero (negsuc n) e = absurd (omega (ints, e))
-
-plain-zero-whole : {x : Float} {z : ℤ} → T (fits binary64 x) → IsWhole x z → natAbs z ≤ 2 ^ 53 → plainZero x ≡ ofInt binary64 z
-plain-zero-whole {x} {z} h w b = go (eq (absF x) (num 0)) refl
-  where
-    o : IsWhole (num 0) (pos 0)
-    o = num-whole 0 (lit≤ tt)
-
-    go : (t : Bool) → eq (absF x) (num 0) ≡ t → plainZero x ≡ ofInt binary64 z
-    go true e = ap (λ c. cond c (num 0) x) e ∙ ap (ofInt binary64) (sym (abs-zero z (eq-yes (abs-whole w) o e)))
-    go false e =
-        ap (λ c. cond c (num 0) x) e
-        ∙ unique binary64 h (ofInt-fits binary64 z) w (ofInt-whole binary64 z b) (λ k. eq-no (abs-whole w) o e (ap (λ y. pos (natAbs y)) k))
 
 -- ---- "It tests first and truncates after": of a finite f64 that passes the test
 module _ (x : Float) (h : T (fits binary64 x)) (F : T (finite x)) (l : lt (num 8_640_000_000_000_000) (absF x) ≡ false) where
@@ -50,7 +32,7 @@ module _ (x : Float) (h : T (fits binary64 x)) (F : T (finite x)) (l : lt (num 8
   cut-in-range = trunc-bounded x (lit< tt) (num-whole 8640000000000000 (lit≤ tt)) F l
 
   pub clip-cut : timeClipF x ≡ ofInt binary64 (truncZ x)
-  clip-cut = clip-within x (is-true (finite x) F) l ∙ plain-zero-whole (trunc-fits x) (trunc-whole x h F) (omega (arith, cut-in-range))
+  clip-cut = clip-within x (is-true (finite x) F) l ∙ plus-zero-whole (trunc-fits x) (trunc-whole x h F) (omega (arith, cut-in-range))
 
 -- THE LAW for every f64: "a time value is NaN or a whole number in the range", never -0
 pub clip-time-value : (x : Float) → T (fits binary64 x) → IsTimeValue (timeClipF x)
@@ -72,7 +54,7 @@ module _ {t : Float} {z : ℤ} (w : IsWhole t z) where
   pub clip-inside-whole : InRange z → timeClipF t ≡ ofInt binary64 z
   clip-inside-whole r =
       clip-within t (is-true (finite t) (whole-finite w)) (lt-fails (num-whole 8640000000000000 (lit≤ tt)) (abs-whole w) (omega (ints, r)))
-      ∙ plain-zero-whole (trunc-fits t) (trunc-small w (omega (arith, r))) (omega (arith, r))
+      ∙ plus-zero-whole (trunc-fits t) (trunc-small w (omega (arith, r))) (omega (arith, r))
 
   pub clip-outside-whole : timeRange < natAbs z → timeClipF t ≡ nan
   clip-outside-whole r =

@@ -5,10 +5,10 @@ use Prim.Native.Nat.{ℕ}
 use lib.Ieee.{Float, nan, binary64, add, sub, mul, lt, le, isNan}
 use lib.Ieee.Scale.{finite}
 use borrow.Author.Tests.{not-true, not-false}
-use Rattle.float.specs.Rounding.{truncF, absF, toIntegerOrInfinity}
+use Rattle.float.specs.Rounding.{truncF, absF, toIntegerOrInfinity, plusZero}
 use Rattle.calendar.specs.Calendar.{num, dayF}
 use Rattle.make.proofs.Finite.{summand-left, summand-right, factor, uncut}
-use Rattle.make.specs.Make.{wholePart, joinTime, makeTimeF, yearOfMonth, monthOfYear, monthStartF, dayOfMonthF, makeDayF, ifFinite, makeDateF, fullYear, makeFullYearF, plainZero, timeClipF}
+use Rattle.make.specs.Make.{wholePart, joinTime, makeTimeF, yearOfMonth, monthOfYear, monthStartF, dayOfMonthF, makeDayF, ifFinite, makeDateF, fullYear, makeFullYearF, timeClipF}
 
 and-false : (a : Bool) {b : Bool} → b ≡ false → (a && b) ≡ false
 and-false true e = e
@@ -142,12 +142,12 @@ full-year-above i e = ap (λ b. cond b (add binary64 (num 1900) i) i) (and-false
 module _ (t : Float) where
   pub clip-not-finite : finite t ≡ false → timeClipF t ≡ nan
   unfolding timeClipF
-  clip-not-finite e = ap (λ b. cond b (cond (lt (num 8640000000000000) (absF t)) nan (plainZero (truncF t))) nan) e
+  clip-not-finite e = ap (λ b. cond b (cond (lt (num 8640000000000000) (absF t)) nan (plusZero (truncF t))) nan) e
 
   pub clip-beyond : finite t ≡ true → lt (num 8640000000000000) (absF t) ≡ true → timeClipF t ≡ nan
   unfolding timeClipF
-  clip-beyond a b = λ i. cond (a i) (cond (b i) nan (plainZero (truncF t))) nan
+  clip-beyond a b = λ i. cond (a i) (cond (b i) nan (plusZero (truncF t))) nan
 
-  pub clip-within : finite t ≡ true → lt (num 8640000000000000) (absF t) ≡ false → timeClipF t ≡ plainZero (truncF t)
+  pub clip-within : finite t ≡ true → lt (num 8640000000000000) (absF t) ≡ false → timeClipF t ≡ plusZero (truncF t)
   unfolding timeClipF
-  clip-within a b = λ i. cond (a i) (cond (b i) nan (plainZero (truncF t))) nan
+  clip-within a b = λ i. cond (a i) (cond (b i) nan (plusZero (truncF t))) nan

@@ -6,11 +6,11 @@ use mathlib.Core.Option.{Option, some, none}
 use Prim.Native.Nat.{ℕ}
 use lib.Dec.{T, ltb}
 use lib.IntN.{ℤ}
-use lib.Ieee.{Float, nan, binary64, fits, add, sub, mul, div, lt, le, eq, isNan, ofInt, toUnsigned}
+use lib.Ieee.{Float, nan, binary64, fits, add, sub, mul, div, lt, le, isNan, ofInt, toUnsigned}
 use lib.Ieee.Scale.{finite}
 use Rattle.ecma262.specs.Date.{daysBefore, InRange}
 use Rattle.float.specs.Whole.{truncZ}
-use Rattle.float.specs.Rounding.{floorF, truncF, absF, copysignF, remEuclidF, toIntegerOrInfinity}
+use Rattle.float.specs.Rounding.{floorF, truncF, absF, copysignF, remEuclidF, toIntegerOrInfinity, plusZero}
 use Rattle.calendar.specs.Calendar.{num, dayF, dayFromYearF}
 
 -- x.abs().floor().copysign(x), as the makers cut a field
@@ -81,13 +81,9 @@ fullYear i = cond (le (num 0) i && le i (num 99)) (add binary64 (num 1900) i) i
 unfoldable pub makeFullYearF : Float → Float
 makeFullYearF year = cond (isNan year) nan (fullYear (toIntegerOrInfinity year))
 
--- x, but +0 for a zero
-abbrev pub plainZero : Float → Float
-plainZero x = cond (eq (absF x) (num 0)) (num 0) x
-
 -- "not finite or beyond the range gives NaN; below 1 in magnitude gives +0. It tests first and truncates after."
 unfoldable pub timeClipF : Float → Float
-timeClipF time = cond (finite time) (cond (lt (num 8_640_000_000_000_000) (absF time)) nan (plainZero (truncF time))) nan
+timeClipF time = cond (finite time) (cond (lt (num 8_640_000_000_000_000) (absF time)) nan (plusZero (truncF time))) nan
 
 -- ---- what the laws speak of
 

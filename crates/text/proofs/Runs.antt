@@ -10,7 +10,7 @@ use lib.Seq.{sets, sets-eq, drop-cons, set-at, append-snoc, take-suc, length-tak
 use borrow.Author.Tests.{le-leb, lt-leb}
 use Rattle.ecma262.specs.Digits.{digit, digits}
 use Rattle.ecma262.proofs.Digits.{one-digit, digits-join}
-use Rattle.text.specs.Output.{Puts, Prints}
+use Rattle.text.specs.Contracts.{Puts, Prints}
 use Rattle.text.specs.declared.Printed.the-variants.{Length, NoRoom}
 
 -- stores in a row behind stores in a row

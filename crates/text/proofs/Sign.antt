@@ -11,7 +11,7 @@ use mir.Facts.{toZ-ofZ}
 use Rattle.ecma262.specs.Texts.{timeZoneString}
 use Rattle.integers.proofs.Int.{abs-in}
 use Rattle.integers.proofs.Machine.{fits32}
-use Rattle.text.specs.Output.{Puts}
+use Rattle.text.specs.Contracts.{Puts}
 
 pub at-fitting : (P : ℤ → Type 0) {x : ℤ} → SFits w32 x → P (toZ w32 (ofZ w32 x)) → P x
 at-fitting P f p = subst P (toZ-ofZ f) p

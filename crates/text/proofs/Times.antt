@@ -8,7 +8,7 @@ use Rattle.ecma262.proofs.Fields.{fields-valid}
 use Rattle.ecma262.proofs.Texts.{weekday-small}
 use Rattle.ecma262.proofs.Written.{year-small, month-days}
 use Rattle.text.specs.declared.DateFields.{DateFields}
-use Rattle.text.specs.Print.{wholeOf, Printable}
+use Rattle.text.specs.Contracts.{wholeOf, Printable}
 
 valid-printable : (f : DateFields) → Valid (wholeOf f) → natAbs (f .year) ≤ 999999 → f .weekday < 7 → Printable f
 valid-printable f v y w =

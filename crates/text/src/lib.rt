@@ -6,8 +6,7 @@ ghost use lib.ListN.{length};
 ghost use lib.IntN.{natAbs};
 ghost use Rattle.ecma262.specs.Digits.{digits};
 ghost use Rattle.ecma262.specs.Texts.{ascii, isoYear, isoDate, isoTime, isoOf, clockOf, dayName, monthName, paddedYear, yearSign, signedYear, timeStringOf, offsetSign, timeZoneString, utcOf, localOf, invalidDate};
-ghost use Rattle.text.specs.Output.{Puts, Prints};
-ghost use Rattle.text.specs.Print.{wholeOf, Printable, utcHead, localHead};
+ghost use Rattle.text.specs.Contracts.{Puts, Prints, wholeOf, Printable, utcHead, localHead};
 
 // The number of bytes printed, or that the output is shorter than the text. Then it is as it was.
 pub enum Printed {

@@ -11,14 +11,14 @@ use lib.Ieee.{Float, nan, binary64, ofBits, toBits, ofInt, eq, isNan, fits}
 use lib.Ieee.Bits.{ofBits-toBits, ofBits-fits, is-false}
 use lib.Ieee.Fits.{ofInt-fits}
 use Rattle.ecma262.specs.Date.{timeRange, InRange}
-use Rattle.float.specs.Whole.{IsWhole, truncZ, plain}
-use Rattle.float.proofs.Whole.{ofInt-whole, plain-nonzero, int-unique}
-use Rattle.float.proofs.Within.{within-holds, within-is}
+use Rattle.float.specs.Whole.{IsWhole, truncZ}
+use Rattle.float.specs.Rounding.{plusZero}
+use Rattle.float.proofs.Whole.{ofInt-whole}
+use Rattle.float.proofs.Within.{within-holds, within-is, plus-zero-whole}
 use Rattle.float.proofs.Rounding.{whole-finite, truncZ-whole}
-use Rattle.float.proofs.Order.{eq-yes, eq-no}
 use Rattle.float.proofs.Special.{nan-only, finite-number}
 use Rattle.timevalue.specs.declared.TimeValue.the-variants.{Time, Nan, Refused}
-use Rattle.timevalue.specs.TimeValue.{IsTime, isTime, unsigned, judged, timeValueOf}
+use Rattle.timevalue.specs.TimeValue.{IsTime, isTime, judged, timeValueOf}
 
 -- ---- the test is the record, both ways
 pub time-holds : (x : Float) → T (fits binary64 x) → IsTime x → isTime x ≡ true
@@ -37,28 +37,16 @@ pub record Taken (x t : Float) : Type 0 where
   pub number : t ≡ ofInt binary64 (truncZ t)
   pub value : IsWhole x (truncZ t)
 
-zero-taken : T (plain (ofInt binary64 (pos 0)))
-unfolding ofInt
-zero-taken = tt
-
-taken : (x t : Float) {z : ℤ} → IsWhole x z → InRange z → IsWhole t z → T (fits binary64 t) → T (plain t) → Taken x t
-taken x t {z} w r u f p =
-    let e : z ≡ truncZ t = sym (truncZ-whole u) in
+plus-zero-taken : (x : Float) → T (fits binary64 x) → IsTime x → Taken x (plusZero x)
+plus-zero-taken x f w =
+    let e = plus-zero-whole f (w .whole) (le-trans (w .range) (lit≤ tt)) in
+    let u : IsWhole (plusZero x) (truncZ x) = subst (λ t. IsWhole t (truncZ x)) (sym e) (ofInt-whole binary64 (truncZ x) (le-trans (w .range) (lit≤ tt))) in
+    let same : truncZ x ≡ truncZ (plusZero x) = sym (truncZ-whole u) in
     record {
-      time = record { whole = subst (IsWhole t) e u; range = subst InRange e r };
-      number = int-unique f u p (le-trans r (lit≤ tt)) ∙ ap (ofInt binary64) e;
-      value = subst (IsWhole x) e w;
+      time = record { whole = subst (IsWhole (plusZero x)) same u; range = subst InRange same (w .range) };
+      number = e ∙ ap (ofInt binary64) same;
+      value = subst (IsWhole x) same (w .whole);
     }
-
-unsigned-taken : (x : Float) → T (fits binary64 x) → IsTime x → Taken x (unsigned x)
-unsigned-taken x f w = go (eq x (ofInt binary64 (pos 0))) refl
-  where
-    zero-is : IsWhole (ofInt binary64 (pos 0)) (pos 0)
-    zero-is = ofInt-whole binary64 (pos 0) (lit≤ tt)
-
-    go : (b : Bool) → eq x (ofInt binary64 (pos 0)) ≡ b → Taken x (cond b (ofInt binary64 (pos 0)) x)
-    go true e = taken x (ofInt binary64 (pos 0)) (subst (IsWhole x) (eq-yes (w .whole) zero-is e) (w .whole)) (lit≤ tt) zero-is (ofInt-fits binary64 (pos 0)) zero-taken
-    go false e = taken x x (w .whole) (w .range) (w .whole) f (plain-nonzero (w .whole) (eq-no (w .whole) zero-is e))
 
 -- The law: the three answers, and when each is given
 pub data Judged (bits : ℕ) : Type 0 where
@@ -82,7 +70,7 @@ judge bits = go (isNan x) (isTime x) refl refl
 
     go : (n t : Bool) → isNan x ≡ n → isTime x ≡ t → Judged bits
     go true t n e = is-nan (rw n) (nan-only x n)
-    go false true n e = is-time (unsigned x) (rw (n, e)) (unsigned-taken x f (time-is x f e))
+    go false true n e = is-time (plusZero x) (rw (n, e)) (plus-zero-taken x f (time-is x f e))
     go false false n e = is-refused (rw (n, e)) (real x n) (λ w. true≢false (sym (time-holds x f w) ∙ e))
 
 -- so a time that is taken is one
@@ -111,10 +99,10 @@ time-back z r = ap judged (ofBits-toBits binary64 x (ofInt-fits binary64 z)) ∙
     w : IsTime x
     w = let e : z ≡ truncZ x = sym (truncZ-whole u) in record { whole = subst (IsWhole x) e u; range = subst InRange e r }
 
-    k : Taken x (unsigned x)
-    k = unsigned-taken x f w
+    k : Taken x (plusZero x)
+    k = plus-zero-taken x f w
 
-    same : unsigned x ≡ x
+    same : plusZero x ≡ x
     same = k .number ∙ ap (ofInt binary64) (sym (truncZ-whole (k .value)) ∙ truncZ-whole u)
 
     no-nan : isNan x ≡ false

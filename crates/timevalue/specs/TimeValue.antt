@@ -3,10 +3,10 @@
 use mathlib.Core.Bool.{Bool, cond}
 use Prim.Native.Nat.{ℕ}
 use lib.IntN.{pos}
-use lib.Ieee.{Float, binary64, ofBits, ofInt, eq, isNan}
+use lib.Ieee.{Float, binary64, ofBits, ofInt, isNan}
 use Rattle.ecma262.specs.Date.{timeRange, InRange}
 use Rattle.float.specs.Whole.{IsWhole, truncZ}
-use Rattle.float.specs.Rounding.{isWholeWithin}
+use Rattle.float.specs.Rounding.{isWholeWithin, plusZero}
 use Rattle.timevalue.specs.declared.TimeValue.{TimeValue}
 use Rattle.timevalue.specs.declared.TimeValue.the-variants.{Time, Nan, Refused}
 
@@ -19,12 +19,8 @@ pub record IsTime (x : Float) : Type 0 where
 unfoldable pub isTime : Float → Bool
 isTime x = isWholeWithin (ofInt binary64 (pos timeRange)) x
 
--- x, but +0 for either zero
-abbrev pub unsigned : Float → Float
-unsigned x = cond (eq x (ofInt binary64 (pos 0))) (ofInt binary64 (pos 0)) x
-
 abbrev pub judged : Float → TimeValue
-judged x = cond (isNan x) Nan (cond (isTime x) (Time (unsigned x)) Refused)
+judged x = cond (isNan x) Nan (cond (isTime x) (Time (plusZero x)) Refused)
 
 -- What a call takes the 64 bits of a time value for: every pattern of a NaN is NaN. Row 2 of the table, "infinite, fractional or beyond the
 -- range", is `Refused`.

@@ -20,7 +20,7 @@ pub fn time_value(bits: u64) -> TimeValue
     }
     if float::is_whole_within(x, 8_640_000_000_000_000.0) {
         // -0 counts as 0. A sum with 0.0 would do, but not where the processor rounds down: there it is -0.
-        if x == 0.0 {
+        if float::abs(x) == 0.0 {
             return TimeValue::Time(0.0);
         }
         return TimeValue::Time(x);

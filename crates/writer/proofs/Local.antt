@@ -17,7 +17,7 @@ use Rattle.timevalue.specs.TimeValue.{IsTime}
 use Rattle.zone.specs.Zone.{records, Accepted}
 use Rattle.local.specs.Local.{offsetOfInstant, offsetOfSuffix, localTime, offsetSecondsF, localTimeF}
 use Rattle.local.proofs.Whole.{offset-whole, offset-small, local-time-shown, local-time-whole}
-use Rattle.text.specs.Print.{wholeOf}
+use Rattle.text.specs.Contracts.{wholeOf}
 use Rattle.text.specs.declared.DateFields.{DateFields}
 use Rattle.writer.specs.Contracts.{IsShown, FieldsAt}
 use Rattle.writer.specs.Writer.{toDateString}

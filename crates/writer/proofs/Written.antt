@@ -9,8 +9,7 @@ use borrow.Author.Tests.{le-leb, lt-leb, lt-ltb, le-ltb}
 use Rattle.ecma262.specs.Texts.{isoOf, utcOf, localOf, isoText, utcText, localText}
 use Rattle.ecma262.specs.Domain.{Shown}
 use Rattle.integers.proofs.Int.{by-test}
-use Rattle.text.specs.Output.{Prints}
-use Rattle.text.specs.Print.{wholeOf, Printable}
+use Rattle.text.specs.Contracts.{Prints, wholeOf, Printable}
 use Rattle.text.specs.declared.DateFields.{DateFields}
 use Rattle.text.specs.declared.Printed.{Printed}
 use Rattle.text.specs.declared.Printed.the-variants.{Length, NoRoom}

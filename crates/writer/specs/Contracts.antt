@@ -7,7 +7,7 @@ use lib.Ieee.{Float}
 use Rattle.ecma262.specs.Date.{fieldsOf, WeekDay}
 use Rattle.ecma262.specs.Domain.{Shown}
 use Rattle.float.specs.Whole.{IsWhole, truncZ}
-use Rattle.text.specs.Print.{wholeOf}
+use Rattle.text.specs.Contracts.{wholeOf}
 use Rattle.text.specs.declared.DateFields.{DateFields}
 use Rattle.text.specs.declared.Printed.{Printed}
 use Rattle.text.specs.declared.Printed.the-variants.{Length, NoRoom}

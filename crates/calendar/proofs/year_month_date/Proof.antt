@@ -9,7 +9,7 @@ use Rattle.integers.proofs.Machine.{kept}
 use Rattle.ecma262.specs.Date.{monthOf, dateOf}
 use Rattle.calendar.specs.Calendar.{leapF, dayWithinF, inLeapYearF, dayWithinYearF, monthFromTimeF, dateFromTimeF}
 use Rattle.calendar.proofs.Step.{of-32}
-use Rattle.calendar.proofs.Table.{date-by-month, date-number, leap-flag}
+use Rattle.calendar.proofs.Table.{month-by-then, date-number, leap-flag}
 use Rattle.calendar.proofs.year_month_date.Statement.{statement}
 use Rattle.calendar.proofs.year_month_date.Tie as tie
 
@@ -48,7 +48,7 @@ month-of-day-requires c κs = small (c .before)
 cast-t7 : tie.Need-cast-t7
 cast-t7 c =
     let l = c .before .before in
-    record { fits = omega (arith, date-by-month (l .leap-flag .result) (c .before .day-within .result) (small l) .2, c .month-of-day .ensures) }
+    record { fits = omega (arith, month-by-then (l .leap-flag .result) (c .before .day-within .result) (small l) .1, c .month-of-day .ensures) }
 
 days-before-requires : tie.Need-days-before-requires
 days-before-requires c κs =

@@ -6,7 +6,7 @@ use lib.ListN.{length}
 use borrow.Author.Needs.{needs}
 use Rattle.ecma262.proofs.Texts.{length-iso}
 use Rattle.ecma262.specs.Texts.{isoYear}
-use Rattle.text.specs.Print.{wholeOf}
+use Rattle.text.specs.Contracts.{wholeOf}
 use Rattle.text.proofs.Runs.{puts-then, prints-none, prints-whole}
 use Rattle.text.proofs.Sign.{at-fitting, year-fits, puts-fitting}
 use Rattle.text.proofs.iso_string.Statement.{statement}
