@@ -15,7 +15,8 @@ use Rattle.integers.proofs.Int.{by-test}
 use Rattle.ecma262.proofs.Texts.{lengths-iso}
 use Rattle.float.specs.Whole.{truncZ}
 use Rattle.zone.specs.Zone.{accepts, records}
-use Rattle.parser.specs.Reading.{Reading}
+use Rattle.ecma262.specs.Format.{Form}
+use Rattle.parser.specs.Reading.{Out}
 use Rattle.parser.proofs.Prefix.{read-prefix}
 use Rattle.answer.specs.Answer.{refusalNumber}
 use Rattle.answer.specs.declared.Refusal.the-variants.{ZoneList}
@@ -29,7 +30,7 @@ use Rattle.datelines.proofs.Decimal.{within, signed-length}
 pub line-prefix : (n : ℕ) (text : List ℕ) → 33 ≤ n → lineOf (take n text) ≡ lineOf text
 unfolding lineOf readOutcome
 line-prefix n text h =
-    ap (λ (r : Reading). answerLine (cond (accepts (replicate 12 0)) (replyFor (records (replicate 12 0)) r) (Refused ZoneList))) (read-prefix n text h)
+    ap (λ (r : Out Form). answerLine (cond (accepts (replicate 12 0)) (replyFor (records (replicate 12 0)) r) (Refused ZoneList))) (read-prefix n text h)
 
 -- the answer by the reader's answer
 pub line-of : (text : List ℕ) (r : Reply) → readOutcome (replicate 12 0) text ≡ r → answerLine r ≡ lineOf text

@@ -9,15 +9,15 @@ use native.Mathlib.Omega.{arith}
 use lib.Dec.{eqb}
 use lib.ListN.{length, length-append}
 use borrow.Author.Tests.{eqb-true, eq-eqb}
-use Rattle.ecma262.specs.Format.{Year, Date, Time, Zone, Form, prints, printsYear, printsDate, printsTime, printsZone, timeHour, timeMinute, timeSecond, timeMs, TimeBounds, Bounds, Writes}
+use Rattle.ecma262.specs.Format.{Year, Date, Time, Zone, Form, prints, printsYear, printsDate, printsTime, printsZone, timeFields, TimeBounds, Bounds, Writes}
 use Rattle.ecma262.specs.Format.Year.{four, six}
 use Rattle.ecma262.specs.Format.Date.{toYear, toMonth, toDay}
 use Rattle.ecma262.specs.Format.Time.{toSecond, toDecimals}
 use Rattle.ecma262.specs.Format.Zone.{absent, zulu, toHour}
 use Rattle.ecma262.specs.Format.Form.{date, timed}
 use Rattle.parser.specs.declared.Fault.the-variants.{Range}
-use Rattle.parser.specs.Reading.{Out, ok, fault, Reader, readYear, readDate, readTime, readZone, Reading, form, refused, finally, hourAllowed, timeAllowed, afterDate, ending, timePart, rest, read}
-use Rattle.parser.proofs.Stages.{Clock, year-read, date-read, time-read, zone-read, year-written, date-written, time-written, zone-written, zone-start}
+use Rattle.parser.specs.Reading.{ok, fault, after, readYear, readDate, readTime, readZone, hourAllowed, timeAllowed, afterDate, ending, timePart, rest, read}
+use Rattle.parser.proofs.Stages.{on-after, Clock, year-read, date-read, time-read, zone-read, year-written, date-written, time-written, zone-written, zone-start}
 
 -- ---- hour 24
 
@@ -39,31 +39,23 @@ midnight-written h m s ms q = go (eqb h 24) refl
 
 -- ---- a text that is read is printed by its form
 
-module _ {A C : Type 0} {s : List ℕ} {f : Form} where
-  on-stage : (p : Reader A) (k : A → List ℕ → Reading) → finally (p s) k ≡ form f → ((a : A) (t : List ℕ) → p s ≡ ok a t → k a t ≡ form f → C) → C
-  on-stage p k e then = go (p s) refl e
-    where
-      go : (o : Out A) → p s ≡ o → finally o k ≡ form f → C
-      go (ok a t) h e = then a t h e
-      go (fault x) h e = absurd (let z : _≡_ {A = ℕ} 0 1 = cc in omega arith)
-
 -- the end of a text with a time
-ending-read : (y : Year) (d : Date) (t : Time) (z : Zone) (s : List ℕ) (f : Form) → ending y d t z s ≡ form f → (s ≡ []) × (timeAllowed t ≡ true) × (f ≡ timed y d t z)
+ending-read : (y : Year) (d : Date) (t : Time) (z : Zone) (s : List ℕ) {f : Form} {u : List ℕ} → ending y d t z s ≡ ok f u → (s ≡ []) × (timeAllowed t ≡ true) × (f ≡ timed y d t z)
 unfolding ending
-ending-read y d t z [] f e = go (timeAllowed t) refl e
+ending-read y d t z [] {f} {u} e = go (timeAllowed t) refl e
   where
-    go : (x : Bool) → timeAllowed t ≡ x → cond x (form (timed y d t z)) (refused Range) ≡ form f → (_≡_ {A = List ℕ} [] []) × (timeAllowed t ≡ true) × (f ≡ timed y d t z)
+    go : (x : Bool) → timeAllowed t ≡ x → cond x (ok (timed y d t z) []) (fault Range) ≡ ok f u → (_≡_ {A = List ℕ} [] []) × (timeAllowed t ≡ true) × (f ≡ timed y d t z)
     go true h e = (refl, h, cc)
     go false h e = absurd (let z : _≡_ {A = ℕ} 0 1 = cc in omega arith)
-ending-read y d t z (b ∷ s) f e = absurd (let z : _≡_ {A = ℕ} 0 1 = cc in omega arith)
+ending-read y d t z (b ∷ s) e = absurd (let z : _≡_ {A = ℕ} 0 1 = cc in omega arith)
 
 -- the end after a date, or `T`
-rest-read : {C : Type 0} (y : Year) (d : Date) (s : List ℕ) (f : Form) → rest y d s ≡ form f → (s ≡ [] → f ≡ date y d → C) → ((t : List ℕ) → s ≡ 84 ∷ t → timePart y d t ≡ form f → C) → C
+rest-read : {C : Type 0} (y : Year) (d : Date) (s : List ℕ) {f : Form} {u : List ℕ} → rest y d s ≡ ok f u → (s ≡ [] → f ≡ date y d → C) → ((t : List ℕ) → s ≡ 84 ∷ t → timePart y d t ≡ ok f u → C) → C
 unfolding rest
-rest-read y d [] f e end time = end refl (cc)
-rest-read {C} y d (b ∷ s) f e end time = go (eqb b 84) refl e
+rest-read y d [] e end time = end refl (cc)
+rest-read {C} y d (b ∷ s) {f} {u} e end time = go (eqb b 84) refl e
   where
-    go : (x : Bool) → eqb b 84 ≡ x → cond x (timePart y d s) (refused (afterDate d)) ≡ form f → C
+    go : (x : Bool) → eqb b 84 ≡ x → cond x (timePart y d s) (fault (afterDate d)) ≡ ok f u → C
     go true h e = time s (ap (λ c. c ∷ s) (eqb-true b 84 h)) e
     go false h e = absurd (let z : _≡_ {A = ℕ} 0 1 = cc in omega arith)
 
@@ -73,27 +65,27 @@ time-bounds t c e = record {
   minute-to = c .minute-to;
   second-to = c .second-to;
   ms-to = c .ms-to;
-  midnight = midnight-read (timeHour t) (timeMinute t) (timeSecond t) (timeMs t) e;
+  midnight = midnight-read (timeFields t .hour) (timeFields t .minute) (timeFields t .second) (timeFields t .ms) e;
 }
 
 writes : (f : Form) {g : Form} {text : List ℕ} → g ≡ f → Bounds f → text ≡ prints f → Writes g text
 writes f e b p = rw e (record { bounds = b; printed = sym p })
 
-pub read-printed : (text : List ℕ) (f : Form) → read text ≡ form f → Writes f text
+pub read-printed : (text : List ℕ) (f : Form) {left : List ℕ} → read text ≡ ok f left → Writes f text
 unfolding read timePart
 read-printed text f e =
-    on-stage readYear _ e λ y s h e₁.
-    on-stage readDate _ e₁ λ d r g e₂.
+    on-after readYear _ e λ y s h e₁.
+    on-after readDate _ e₁ λ d r g e₂.
     let Y = year-read text y s h in
     let D = date-read s d r g in
-    rest-read y d r f e₂
+    rest-read y d r e₂
     (λ q p. writes (date y d) p (Y .bounds, D .bounds) (rw (Y .printed, D .printed, q, append-nil (printsDate d))))
     (λ t q e₃.
-    on-stage readTime _ e₃ λ x u k e₄.
-    on-stage readZone _ e₄ λ z v l e₅.
+    on-after readTime _ e₃ λ x u k e₄.
+    on-after readZone _ e₄ λ z v l e₅.
     let T = time-read t x u k in
     let Z = zone-read u z v l in
-    let E = ending-read y d x z v f e₅ in
+    let E = ending-read y d x z v e₅ in
     writes (timed y d x z) (E .2) (Y .bounds, D .bounds, time-bounds x (T .bounds) (E .1), Z .bounds)
     (rw (Y .printed, D .printed, q, T .printed, Z .printed, E .0, append-nil (printsZone z))))
 
@@ -102,8 +94,8 @@ read-printed text f e =
 clock : (t : Time) → TimeBounds t → Clock t
 clock t b = record { hour-to = b .hour-to; minute-to = b .minute-to; second-to = b .second-to; ms-to = b .ms-to }
 
-printed-form : (f : Form) → Bounds f → read (prints f) ≡ form f
-unfolding read rest timePart ending
+printed-form : (f : Form) → Bounds f → read (prints f) ≡ ok f []
+unfolding after read rest timePart ending
 printed-form (date y d) b =
     rw (year-written y (printsDate d) (b .0)) (rw (sym (append-nil (printsDate d))) (rw (date-written d [] (b .1) tt)))
 printed-form (timed y d t z) b =
@@ -114,17 +106,21 @@ printed-form (timed y d t z) b =
       date-written d (84 ∷ (printsTime t ++ printsZone z)) (b .1) (λ e. omega arith),
       time-written t (printsZone z) (clock t B) (n .0) (n .1),
       zone-written z (b .3),
-      midnight-written (timeHour t) (timeMinute t) (timeSecond t) (timeMs t) (B .midnight),
+      midnight-written (timeFields t .hour) (timeFields t .minute) (timeFields t .second) (timeFields t .ms) (B .midnight),
     )
 
-pub printed-read : (text : List ℕ) (f : Form) → Writes f text → read text ≡ form f
+pub printed-read : (text : List ℕ) (f : Form) → Writes f text → read text ≡ ok f []
 printed-read text f w = rw (sym (w .printed)) (printed-form f (w .bounds))
 
 -- ---- the theorems
 
 -- a text is read as the form f exactly when f, within its bounds, prints it
-pub accepts : (text : List ℕ) (f : Form) → read text ≡ form f ↔ Writes f text
+pub accepts : (text : List ℕ) (f : Form) → (read text ≡ ok f []) ↔ Writes f text
 accepts text f = (read-printed text f, printed-read text f)
+
+-- a text that is read is read to its end
+pub nothing-left : (text : List ℕ) (f : Form) {left : List ℕ} → read text ≡ ok f left → left ≡ []
+nothing-left text f e = let w = printed-read text f (read-printed text f e) in cc
 
 -- no two forms print one text
 pub form-unique : (text : List ℕ) (f g : Form) → Writes f text → Writes g text → f ≡ g
@@ -160,7 +156,7 @@ prints-length (date y d) = simp length-append (omega (arith, year-length y, date
 prints-length (timed y d t z) = simp length-append (omega (arith, year-length y, date-length d, time-length t, zone-length z))
 
 -- no accepted text is longer than 32 bytes
-pub accepted-length : (text : List ℕ) (f : Form) → read text ≡ form f → length text ≤ 32
+pub accepted-length : (text : List ℕ) (f : Form) {left : List ℕ} → read text ≡ ok f left → length text ≤ 32
 accepted-length text f e = rw (sym (read-printed text f e .printed)) (prints-length f)
 
 -- and one is as long: +000000-01-01T00:00:00.000+00:00

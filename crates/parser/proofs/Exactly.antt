@@ -14,8 +14,8 @@ use Rattle.parser.specs.declared.Form.{Form}
 use Rattle.parser.specs.declared.Form.the-variants as F
 use Rattle.parser.specs.declared.Parsed.{Parsed}
 use Rattle.parser.specs.declared.Parsed.the-variants as P
-use Rattle.parser.specs.Reading.{Reading, form, refused}
-use Rattle.parser.specs.Answer.{asYear, asDate, asTime, asZone, asReading}
+use Rattle.parser.specs.Reading.{Out, ok, fault}
+use Rattle.parser.specs.Contracts.{asYear, asDate, asTime, asZone, asReading}
 
 -- ---- the code's value of a form, and back: no two answers say the same
 
@@ -63,10 +63,10 @@ zone-value Z.Zulu = refl
 zone-value (Z.ToHour n h) = refl
 zone-value (Z.ToMinute n h m) = refl
 
-answer : Reading → Parsed
-answer (form (format.Form.date y d)) = P.Read (F.Date (yearValue y) (dateValue d))
-answer (form (format.Form.timed y d t z)) = P.Read (F.Timed (yearValue y) (dateValue d) (timeValue t) (zoneValue z))
-answer (refused f) = P.Refused f
+answer : Out format.Form → Parsed
+answer (ok (format.Form.date y d) s) = P.Read (F.Date (yearValue y) (dateValue d))
+answer (ok (format.Form.timed y d t z) s) = P.Read (F.Timed (yearValue y) (dateValue d) (timeValue t) (zoneValue z))
+answer (fault f) = P.Refused f
 
 answer-reading : (r : Parsed) → answer (asReading r) ≡ r
 unfolding answer

@@ -7,26 +7,26 @@ use Prim.Native.Nat.{ℕ}
 use Prim.Native.String.{String}
 use lib.Dec.{T, eqb}
 use Rattle.ecma262.specs.Texts.{ascii}
-use Rattle.ecma262.specs.Format.{Zone}
+use Rattle.ecma262.specs.Format.{Zone, Form}
 use Rattle.ecma262.specs.Format.Year.{four, six}
 use Rattle.ecma262.specs.Format.Date.{toYear, toMonth, toDay}
 use Rattle.ecma262.specs.Format.Time.{toMinute, toSecond, toDecimals}
 use Rattle.ecma262.specs.Format.Form.{date, timed}
 use Rattle.parser.specs.declared.Fault.the-variants.{Short, Bad, Range, Trailing}
-use Rattle.parser.specs.Reading.{after, give, choose, byte, digitsAfter, within, signedYear, readYear, readDay, readDate, readDecimals, readSecond, readTime, readOffsetMinute, readOffset, readZone, Reading, form, refused, ending, timePart, rest, read}
+use Rattle.parser.specs.Reading.{after, give, choose, byte, digitsAfter, within, signedYear, readYear, readDay, readDate, readDecimals, readSecond, readTime, readOffsetMinute, readOffset, readZone, Out, ok, fault, ending, timePart, rest, read}
 
 -- how precise a text was, and how its zone was written, is kept
-accepted : (read (ascii "1970") ≡ form (date (four 1970) toYear))
-    × (read (ascii "+001970") ≡ form (date (six false 1970) toYear))
-    × (read (ascii "+000000") ≡ form (date (six false 0) toYear))
-    × (read (ascii "-271821-04") ≡ form (date (six true 271821) (toMonth 4)))
-    × (read (ascii "2023-02-31") ≡ form (date (four 2023) (toDay 2 31)))
-    × (read (ascii "1970T00:00") ≡ form (timed (four 1970) toYear (toMinute 0 0) Zone.absent))
-    × (read (ascii "2024-02-29T12:00:00Z") ≡ form (timed (four 2024) (toDay 2 29) (toSecond 12 0 0) Zone.zulu))
-    × (read (ascii "2023-12-31T24:00:00Z") ≡ form (timed (four 2023) (toDay 12 31) (toSecond 24 0 0) Zone.zulu))
-    × (read (ascii "2023-12-31T24:00:00.000-23:59") ≡ form (timed (four 2023) (toDay 12 31) (toDecimals 24 0 0 0) (Zone.toMinute true 23 59)))
-    × (read (ascii "+275760-09-13T01:00:00+01:00") ≡ form (timed (six false 275760) (toDay 9 13) (toSecond 1 0 0) (Zone.toMinute false 1 0)))
-    × (read (ascii "0000-01T23:59:59.999-05") ≡ form (timed (four 0) (toMonth 1) (toDecimals 23 59 59 999) (Zone.toHour true 5)))
+accepted : (read (ascii "1970") ≡ ok (date (four 1970) toYear) [])
+    × (read (ascii "+001970") ≡ ok (date (six false 1970) toYear) [])
+    × (read (ascii "+000000") ≡ ok (date (six false 0) toYear) [])
+    × (read (ascii "-271821-04") ≡ ok (date (six true 271821) (toMonth 4)) [])
+    × (read (ascii "2023-02-31") ≡ ok (date (four 2023) (toDay 2 31)) [])
+    × (read (ascii "1970T00:00") ≡ ok (timed (four 1970) toYear (toMinute 0 0) Zone.absent) [])
+    × (read (ascii "2024-02-29T12:00:00Z") ≡ ok (timed (four 2024) (toDay 2 29) (toSecond 12 0 0) Zone.zulu) [])
+    × (read (ascii "2023-12-31T24:00:00Z") ≡ ok (timed (four 2023) (toDay 12 31) (toSecond 24 0 0) Zone.zulu) [])
+    × (read (ascii "2023-12-31T24:00:00.000-23:59") ≡ ok (timed (four 2023) (toDay 12 31) (toDecimals 24 0 0 0) (Zone.toMinute true 23 59)) [])
+    × (read (ascii "+275760-09-13T01:00:00+01:00") ≡ ok (timed (six false 275760) (toDay 9 13) (toSecond 1 0 0) (Zone.toMinute false 1 0)) [])
+    × (read (ascii "0000-01T23:59:59.999-05") ≡ ok (timed (four 0) (toMonth 1) (toDecimals 23 59 59 999) (Zone.toHour true 5)) [])
 unfolding after give choose byte digitsAfter within signedYear readYear readDay readDate readDecimals readSecond readTime readOffsetMinute readOffset readZone ending timePart rest read
 accepted = (refl, refl, refl, refl, refl, refl, refl, refl, refl, refl, refl)
 
@@ -34,12 +34,12 @@ accepted = (refl, refl, refl, refl, refl, refl, refl, refl, refl, refl, refl)
 data Row : Type 0 where
   row : String → ℕ → Row
 
-numberOf : Reading → ℕ
-numberOf (form f) = 0
-numberOf (refused Short) = 5
-numberOf (refused Bad) = 6
-numberOf (refused Range) = 7
-numberOf (refused Trailing) = 8
+numberOf : Out Form → ℕ
+numberOf (ok f s) = 0
+numberOf (fault Short) = 5
+numberOf (fault Bad) = 6
+numberOf (fault Range) = 7
+numberOf (fault Trailing) = 8
 
 every : List Row → Bool
 every [] = true

@@ -9,13 +9,13 @@ use native.Mathlib.Decide.{decLe}
 use lib.Dec.{leb, eqb}
 use lib.ListN.{length, take, drop, take-append-drop}
 use lib.Seq.{take-all, length-take-le}
-use Rattle.ecma262.specs.Format.{Year, Date, Time, Zone}
+use Rattle.ecma262.specs.Format.{Year, Date, Time, Zone, Form}
 use Rattle.ecma262.specs.Format.Year.{four, six}
 use Rattle.ecma262.specs.Format.Date.{toYear, toMonth, toDay}
 use Rattle.ecma262.specs.Format.Time.{toSecond, toDecimals}
 use Rattle.ecma262.specs.Format.Zone.{absent, zulu, toHour}
 use Rattle.parser.specs.declared.Fault.the-variants.{Short, Bad, Range}
-use Rattle.parser.specs.Reading.{Out, ok, fault, Reader, bind, after, give, choose, byte, isDigit, digitsAfter, within, field, signedYear, readYear, readDay, readDate, readDecimals, readSecond, readTime, readOffsetMinute, readOffset, readZone, Reading, refused, finally, afterDate, ending, timePart, rest, read}
+use Rattle.parser.specs.Reading.{Out, ok, fault, Reader, bind, after, give, choose, byte, isDigit, digitsAfter, within, field, signedYear, readYear, readDay, readDate, readDecimals, readSecond, readTime, readOffsetMinute, readOffset, readZone, afterDate, ending, timePart, rest, read}
 
 -- an outcome, with t after what is left
 abbrev longer : {A : Type 0} → List ℕ → Out A → Out A
@@ -199,11 +199,12 @@ zone-within =
 
 -- ---- the whole text
 
-stage : {A : Type 0} (k : ℕ) (p : Reader A) → Within k p → (c : A → List ℕ → Reading) (s t : List ℕ) → k ≤ length s
-    → ((a : A) (u : List ℕ) → length s ≤ k + length u → c a (u ++ t) ≡ c a u) → finally (p (s ++ t)) c ≡ finally (p s) c
+stage : {A : Type 0} (k : ℕ) (p : Reader A) → Within k p → (c : A → Reader Form) (s t : List ℕ) → k ≤ length s
+    → ((a : A) (u : List ℕ) → length s ≤ k + length u → c a (u ++ t) ≡ c a u) → after p c (s ++ t) ≡ after p c s
+unfolding after
 stage {A} k p P c s t h then = rw (P .same s t h) (go (p s) (P .left s))
   where
-    go : (o : Out A) → Leaves k s o → finally (longer t o) c ≡ finally o c
+    go : (o : Out A) → Leaves k s o → bind (longer t o) c ≡ bind o c
     go (ok a u) l = then a u l
     go (fault f) l = refl
 
@@ -222,7 +223,7 @@ time-part-same y d s t h =
 rest-same : (y : Year) (d : Date) (s t : List ℕ) → 20 ≤ length s → rest y d (s ++ t) ≡ rest y d s
 unfolding rest
 rest-same y d [] t h = absurd (omega arith)
-rest-same y d (b ∷ s) t h = ap (λ x. cond (eqb b 84) x (refused (afterDate d))) (time-part-same y d s t (omega arith))
+rest-same y d (b ∷ s) t h = ap (λ x. cond (eqb b 84) x (fault (afterDate d))) (time-part-same y d s t (omega arith))
 
 pub read-same : (s t : List ℕ) → 33 ≤ length s → read (s ++ t) ≡ read s
 unfolding read

@@ -14,7 +14,7 @@ use Rattle.fast_atoi.specs.Contracts.{fromLeBytes}
 use Rattle.fast_atoi.proofs.Blocks.{from-digits, from-small}
 use Rattle.parser.specs.declared.Fault.the-variants.{Short, Bad}
 use Rattle.parser.specs.Reading.{ok, fault, digitsAfter}
-use Rattle.parser.specs.Answer.{Reads, IsDigits}
+use Rattle.parser.specs.Contracts.{Reads, IsDigits}
 
 -- the byte at a place, and those from the next place
 pub peel : (text : List ℕ) (at : ℕ) → at < length text → drop at text ≡ getD text at 0 ∷ drop (at + 1) text

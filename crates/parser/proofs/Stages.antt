@@ -8,7 +8,7 @@ use native.Mathlib.Omega.{arith}
 use lib.Dec.{eqb, leb}
 use borrow.Author.Tests.{eqb-true, eqb-false, eq-eqb, ne-eqb, leb-true}
 use Rattle.ecma262.specs.Digits.{digits}
-use Rattle.ecma262.specs.Format.{Year, Date, Time, Zone, sign, printsYear, printsDate, printsTime, printsZone, dateMonth, dateDay, timeHour, timeMinute, timeSecond, timeMs, YearBounds, DateBounds, ZoneBounds}
+use Rattle.ecma262.specs.Format.{Year, Date, Time, Zone, sign, printsYear, printsDate, printsTime, printsZone, timeFields, YearBounds, DateBounds, ZoneBounds}
 use Rattle.ecma262.specs.Format.Year.{four, six}
 use Rattle.ecma262.specs.Format.Date.{toYear, toMonth, toDay}
 use Rattle.ecma262.specs.Format.Time.{toSecond, toDecimals}
@@ -20,7 +20,7 @@ use Rattle.parser.proofs.Numbers.{Number, number-read, number-written, 
 -- ---- what a step read. Each takes what follows of it to any conclusion C
 
 module _ {A B C : Type 0} {s u : List ℕ} {b : B} where
-  on-after : (p : Reader A) (k : A → Reader B) → after p k s ≡ ok b u → ((a : A) (t : List ℕ) → p s ≡ ok a t → k a t ≡ ok b u → C) → C
+  pub on-after : (p : Reader A) (k : A → Reader B) → after p k s ≡ ok b u → ((a : A) (t : List ℕ) → p s ≡ ok a t → k a t ≡ ok b u → C) → C
   unfolding after
   on-after p k e then = go (p s) refl e
     where
@@ -113,9 +113,6 @@ year-read s y t e =
         let x = signed-read n v (m .small) e₁ in
         part printsYear YearBounds (six n v) (x .0) (x .1) (q ∙ ap (λ l. sign n ∷ l) (m .word ∙ rw (x .2)))
 
-date-bounds : (d : Date) → 1 ≤ dateMonth d → dateMonth d ≤ 12 → 1 ≤ dateDay d → dateDay d ≤ 31 → DateBounds d
-date-bounds d a b c e = record { month-from = a; month-to = b; day-from = c; day-to = e }
-
 pub date-read : (s : List ℕ) (d : Date) (t : List ℕ) → readDate s ≡ ok d t → Part printsDate DateBounds s d t
 unfolding readDate readDay
 date-read s d t e =
@@ -123,16 +120,16 @@ date-read s d t e =
     (λ r q e₁. on-field 1 12 _ e₁ λ m r₁ a b q₁ e₂.
     on-choose 45 _ _ e₂
     (λ r₂ q₂ e₃. on-field 1 31 _ e₃ λ v r₃ c g q₃ e₄. on-give (toDay m v) e₄ λ p q₄.
-    part printsDate DateBounds (toDay m v) p (date-bounds (toDay m v) a b c g) (rw (q, q₁, q₂, q₃, q₄)))
-    (λ e₃. on-give (toMonth m) e₃ λ p q₂. part printsDate DateBounds (toMonth m) p (date-bounds (toMonth m) a b (omega arith) (omega arith)) (rw (q, q₁, q₂))))
-    (λ e₁. on-give toYear e₁ λ p q. part printsDate DateBounds toYear p (date-bounds toYear (omega arith) (omega arith) (omega arith) (omega arith)) q)
+    part printsDate DateBounds (toDay m v) p (a, b, c, g) (rw (q, q₁, q₂, q₃, q₄)))
+    (λ e₃. on-give (toMonth m) e₃ λ p q₂. part printsDate DateBounds (toMonth m) p (a, b) (rw (q, q₁, q₂))))
+    (λ e₁. on-give toYear e₁ λ p q. part printsDate DateBounds toYear p tt q)
 
 -- the bounds of a time but for hour 24's, which is judged at the end of the text
 pub record Clock (t : Time) : Type 0 where
-  pub hour-to : timeHour t ≤ 24
-  pub minute-to : timeMinute t ≤ 59
-  pub second-to : timeSecond t ≤ 59
-  pub ms-to : timeMs t ≤ 999
+  pub hour-to : timeFields t .hour ≤ 24
+  pub minute-to : timeFields t .minute ≤ 59
+  pub second-to : timeFields t .second ≤ 59
+  pub ms-to : timeFields t .ms ≤ 999
 
 pub time-read : (s : List ℕ) (x : Time) (t : List ℕ) → readTime s ≡ ok x t → Part printsTime Clock s x t
 unfolding readTime readSecond readDecimals
@@ -209,10 +206,10 @@ pub date-written : (d : Date) (t : List ℕ) → DateBounds d → Not 45 t → r
 unfolding readDate readDay give
 date-written toYear t h n = skip 45 _ _ t n
 date-written (toMonth m) t h n =
-    chosen 45 _ _ (digits 2 m ++ t) ∙ field-then 1 12 readDay m t (h .month-from) (h .month-to) (omega arith) ∙ skip 45 _ _ t n
+    chosen 45 _ _ (digits 2 m ++ t) ∙ field-then 1 12 readDay m t (h .0) (h .1) (omega arith) ∙ skip 45 _ _ t n
 date-written (toDay m d) t h n =
-    chosen 45 _ _ (digits 2 m ++ 45 ∷ digits 2 d ++ t) ∙ field-then 1 12 readDay m (45 ∷ digits 2 d ++ t) (h .month-from) (h .month-to) (omega arith)
-    ∙ chosen 45 _ _ (digits 2 d ++ t) ∙ field-then 1 31 (λ d. give (toDay m d)) d t (h .day-from) (h .day-to) (omega arith)
+    chosen 45 _ _ (digits 2 m ++ 45 ∷ digits 2 d ++ t) ∙ field-then 1 12 readDay m (45 ∷ digits 2 d ++ t) (h .0) (h .1) (omega arith)
+    ∙ chosen 45 _ _ (digits 2 d ++ t) ∙ field-then 1 31 (λ d. give (toDay m d)) d t (h .2) (h .3) (omega arith)
 
 -- hour, `:` and minute
 minute-written : (h m : ℕ) (t : List ℕ) → h ≤ 24 → m ≤ 59 → readTime (digits 2 h ++ 58 ∷ digits 2 m ++ t) ≡ readSecond h m t

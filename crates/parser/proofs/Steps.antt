@@ -2,14 +2,14 @@
 -- of the code showed. Assumes nothing.
 use mathlib.Core.Path.{_≡_, refl, ap, subst, _∙_}
 use mathlib.Core.Bool.{Bool, true, false, cond}
-use mathlib.Core.List.{List}
+use mathlib.Core.List.{List, []}
 use Prim.Native.Nat.{ℕ, _+_, _^_, _≤_, _<_}
 use lib.Dec.{eqb}
 use lib.ListN.{length, drop, getD, drop-of-length-le}
 use native.Mathlib.Omega.{arith}
 use native.Mathlib.Nat.{pow-le-pow-right}
 use borrow.Author.Tests.{le-leb, lt-leb, eq-eqb, ne-eqb, eqb-true, eqb-false}
-use Rattle.ecma262.specs.Format.{Year, Date, Time, Zone}
+use Rattle.ecma262.specs.Format.{Year, Date, Time, Zone, Form}
 use Rattle.ecma262.specs.Format.Year.{six}
 use Rattle.ecma262.specs.Format.Form.{date, timed}
 use Rattle.fast_atoi.specs.Contracts.{moved, join4, join8}
@@ -21,8 +21,8 @@ use Rattle.parser.specs.declared.Digits.{Digits}
 use Rattle.parser.specs.declared.Digits.the-variants as N
 use Rattle.parser.specs.declared.Block.{Block}
 use Rattle.parser.specs.declared.Block.the-variants as B
-use Rattle.parser.specs.Reading.{Out, ok, fault, Reader, after, give, choose, byte, within, digitsAfter, signedYear, readYear, Reading, form, refused, afterDate, afterZone, timeAllowed, ending, timePart, rest}
-use Rattle.parser.specs.Answer.{Reads, IsDigits, IsBlock, isSign, outDigits}
+use Rattle.parser.specs.Reading.{Out, ok, fault, Reader, after, give, choose, byte, within, digitsAfter, signedYear, readYear, afterDate, afterZone, timeAllowed, ending, timePart, rest}
+use Rattle.parser.specs.Contracts.{Reads, IsDigits, IsBlock, isSign, outDigits}
 use Rattle.parser.proofs.Runs.{peel}
 
 module _ {A : Type 0} {text : List ℕ} {at : ℕ} where
@@ -155,28 +155,28 @@ module _ {text : List ℕ} {at n block next : ℕ} (d : IsDigits text at n block
 -- ---- the ends of a text
 
 module _ (text : List ℕ) (next : ℕ) (y : Year) (d : Date) (t : Time) (z : Zone) where
-  pub ending-more : next < length text → refused (afterZone z) ≡ ending y d t z (drop next text)
+  pub ending-more : next < length text → fault (afterZone z) ≡ ending y d t z (drop next text)
   unfolding ending
   ending-more h = rw (peel text next h)
 
-  pub ending-allowed : length text ≤ next → timeAllowed t ≡ true → form (timed y d t z) ≡ ending y d t z (drop next text)
+  pub ending-allowed : length text ≤ next → timeAllowed t ≡ true → ok (timed y d t z) [] ≡ ending y d t z (drop next text)
   unfolding ending
   ending-allowed h e = rw (drop-of-length-le text h, e)
 
-  pub ending-refused : length text ≤ next → timeAllowed t ≡ false → refused Range ≡ ending y d t z (drop next text)
+  pub ending-refused : length text ≤ next → timeAllowed t ≡ false → fault Range ≡ ending y d t z (drop next text)
   unfolding ending
   ending-refused h e = rw (drop-of-length-le text h, e)
 
 module _ (text : List ℕ) (next : ℕ) (y : Year) (d : Date) where
-  pub rest-end : length text ≤ next → form (date y d) ≡ rest y d (drop next text)
+  pub rest-end : length text ≤ next → ok (date y d) [] ≡ rest y d (drop next text)
   unfolding rest
   rest-end h = rw (drop-of-length-le text h)
 
-  pub rest-other : next < length text → (getD text next 0 ≡ 84 → ⊥) → refused (afterDate d) ≡ rest y d (drop next text)
+  pub rest-other : next < length text → (getD text next 0 ≡ 84 → ⊥) → fault (afterDate d) ≡ rest y d (drop next text)
   unfolding rest
   rest-other h e = rw (peel text next h) (simp (ne-eqb _ _ e))
 
-  pub rest-time : {x : Reading} → next < length text → getD text next 0 ≡ 84 → x ≡ timePart y d (drop (next + 1) text) → x ≡ rest y d (drop next text)
+  pub rest-time : {x : Out Form} → next < length text → getD text next 0 ≡ 84 → x ≡ timePart y d (drop (next + 1) text) → x ≡ rest y d (drop next text)
   unfolding rest
   rest-time h e g = rw (peel text next h) (simp (eq-eqb _ _ e) g)
 

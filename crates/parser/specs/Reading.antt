@@ -5,7 +5,7 @@ use mathlib.Core.Bool.{Bool, true, false, cond}
 use mathlib.Core.List.{List, [], _∷_}
 use Prim.Native.Nat.{ℕ, zero, suc, _+_, _-_, _*_}
 use lib.Dec.{leb, eqb}
-use Rattle.ecma262.specs.Format.{Year, Date, Time, Zone, Form, timeHour, timeMinute, timeSecond, timeMs}
+use Rattle.ecma262.specs.Format.{Year, Date, Time, Zone, Form, timeFields}
 use Rattle.ecma262.specs.Format.Year.{four, six}
 use Rattle.ecma262.specs.Format.Date.{toYear, toMonth, toDay}
 use Rattle.ecma262.specs.Format.Time.{toSecond, toDecimals}
@@ -119,32 +119,24 @@ afterZone zulu = Trailing
 afterZone (toHour negative h) = Bad
 afterZone (Zone.toMinute negative h m) = Trailing
 
--- the form of a text, or the first fault
-pub data Reading : Type 0 where
-  form : Form → Reading
-  refused : Fault → Reading
-
-abbrev pub finally : {A : Type 0} → Out A → (A → List ℕ → Reading) → Reading
-finally (ok a s) k = k a s
-finally (fault f) k = refused f
-
 -- 5. "Hour 24 needs all smaller fields 0"; row 7, after 8: "hour 24 with minute, second or decimals not 0; the offset is free"
 abbrev pub hourAllowed : ℕ → ℕ → ℕ → ℕ → Bool
 hourAllowed hour minute second ms = cond (eqb hour 24) (cond (eqb minute 0) (cond (eqb second 0) (eqb ms 0) false) false) true
 
 abbrev pub timeAllowed : Time → Bool
-timeAllowed t = hourAllowed (timeHour t) (timeMinute t) (timeSecond t) (timeMs t)
+timeAllowed t = hourAllowed (timeFields t .hour) (timeFields t .minute) (timeFields t .second) (timeFields t .ms)
 
-unfoldable pub ending : Year → Date → Time → Zone → List ℕ → Reading
-ending y d t z [] = cond (timeAllowed t) (form (timed y d t z)) (refused Range)
-ending y d t z (b ∷ s) = refused (afterZone z)
+unfoldable pub ending : Year → Date → Time → Zone → Reader Form
+ending y d t z [] = cond (timeAllowed t) (ok (timed y d t z) []) (fault Range)
+ending y d t z (b ∷ s) = fault (afterZone z)
 
-unfoldable pub timePart : Year → Date → List ℕ → Reading
-timePart y d s = finally (readTime s) (λ t s. finally (readZone s) (ending y d t))
+unfoldable pub timePart : Year → Date → Reader Form
+timePart y d = after readTime (λ t. after readZone (ending y d t))
 
-unfoldable pub rest : Year → Date → List ℕ → Reading
-rest y d [] = form (date y d)
-rest y d (b ∷ s) = cond (eqb b 84) (timePart y d s) (refused (afterDate d))
+unfoldable pub rest : Year → Date → Reader Form
+rest y d [] = ok (date y d) []
+rest y d (b ∷ s) = cond (eqb b 84) (timePart y d s) (fault (afterDate d))
 
-unfoldable pub read : List ℕ → Reading
-read text = finally (readYear text) (λ y s. finally (readDate s) (rest y))
+-- the form of a text, of which nothing is left, or the first fault
+unfoldable pub read : Reader Form
+read = after readYear (λ y. after readDate (rest y))

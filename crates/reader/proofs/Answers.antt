@@ -8,7 +8,7 @@ use borrow.Author.Tests.{le-leb, lt-leb}
 use Rattle.ecma262.specs.Date.{timeRange}
 use Rattle.ecma262.specs.Format.{Form}
 use Rattle.zone.specs.Zone.{accepts, records}
-use Rattle.parser.specs.Reading.{Reading, form, refused, read}
+use Rattle.parser.specs.Reading.{Out, ok, fault, read}
 use Rattle.parser.specs.declared.Fault.{Fault}
 use Rattle.answer.specs.Answer.{timeBits}
 use Rattle.answer.specs.declared.Refusal.the-variants.{ZoneList, Instant}
@@ -21,15 +21,15 @@ module _ (zone text : List ℕ) where
   unfolding readOutcome
   list-refused e = ap (λ (b : Bool). cond b (replyFor (records zone) (read text)) (Refused ZoneList)) (sym e)
 
-  by-reading : (r : Reading) → accepts zone ≡ true → read text ≡ r → replyFor (records zone) r ≡ readOutcome zone text
+  by-reading : (r : Out Form) → accepts zone ≡ true → read text ≡ r → replyFor (records zone) r ≡ readOutcome zone text
   unfolding readOutcome
-  by-reading r e f = ap₂ (λ (b : Bool) (r : Reading). cond b (replyFor (records zone) r) (Refused ZoneList)) (sym e) (sym f)
+  by-reading r e f = ap₂ (λ (b : Bool) (r : Out Form). cond b (replyFor (records zone) r) (Refused ZoneList)) (sym e) (sym f)
 
-  pub text-refused : (f : Fault) → accepts zone ≡ true → read text ≡ refused f → Refused (refusalOf f) ≡ readOutcome zone text
-  text-refused f = by-reading (refused f)
+  pub text-refused : (f : Fault) → accepts zone ≡ true → read text ≡ fault f → Refused (refusalOf f) ≡ readOutcome zone text
+  text-refused f = by-reading (fault f)
 
-  pub text-read : (f : Form) → accepts zone ≡ true → read text ≡ form f → answerAt (instantOf (records zone) f) ≡ readOutcome zone text
-  text-read f = by-reading (form f)
+  pub text-read : (f : Form) {left : List ℕ} → accepts zone ≡ true → read text ≡ ok f left → answerAt (instantOf (records zone) f) ≡ readOutcome zone text
+  text-read f {left} = by-reading (ok f left)
 
 module _ (t : ℤ) where
   pub answer-beyond : timeRange < natAbs t → Refused Instant ≡ answerAt t

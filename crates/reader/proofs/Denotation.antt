@@ -12,13 +12,14 @@ use lib.Ieee.{Float, binary64, ofInt, ofBits}
 use lib.Ieee.Bits.{ofBits-toBits}
 use lib.Ieee.Fits.{ofInt-fits}
 use Rattle.ecma262.specs.Date.{timeRange, InRange}
+use Rattle.ecma262.specs.Format.{Form}
 use Rattle.integers.proofs.Int.{by-test}
 use Rattle.float.specs.Whole.{IsWhole}
 use Rattle.float.proofs.Whole.{ofInt-whole}
 use Rattle.float.proofs.Rounding.{number-unique}
 use Rattle.zone.specs.Zone.{Accepted, accepts, records}
 use Rattle.zone.proofs.Rule.{accepts-sound, accepts-complete}
-use Rattle.parser.specs.Reading.{Reading, form, refused, read}
+use Rattle.parser.specs.Reading.{Out, ok, fault, read}
 use Rattle.parser.specs.declared.Fault.{Fault}
 use Rattle.parser.specs.declared.Fault.the-variants.{Short, Bad, Range, Trailing}
 use Rattle.parser.proofs.Accepts.{read-printed, printed-read, form-unique}
@@ -55,14 +56,14 @@ module _ (zone text : List ℕ) (a : Accepted zone) where
   -- an answer that is no fault of the text has an instant that the text denotes
   pub data Read : Type 0 where
     instant : (t : ℤ) → Denotes zone text t → Read
-    fault : (f : Fault) → readOutcome zone text ≡ Refused (refusalOf f) → Read
+    turned-back : (f : Fault) → readOutcome zone text ≡ Refused (refusalOf f) → Read
 
   pub reading : Read
   reading = go (read text) refl
     where
-      go : (r : Reading) → read text ≡ r → Read
-      go (form f) e = instant (instantOf (records zone) f) (record { form = f; writes = read-printed text f e; instant = refl })
-      go (refused f) e = fault f (sym (text-refused zone text f accepted e))
+      go : (r : Out Form) → read text ≡ r → Read
+      go (ok f left) e = instant (instantOf (records zone) f) (record { form = f; writes = read-printed text f e; instant = refl })
+      go (fault f) e = turned-back f (sym (text-refused zone text f accepted e))
 
   no-time : (f : Fault) (v : ℕ) → Refused (refusalOf f) ≡ Time v → ⊥
   no-time f v e = let z : _≡_ {A = ℕ} 0 1 = cc in omega arith
@@ -81,7 +82,7 @@ module _ (zone text : List ℕ) (a : Accepted zone) where
       to e = go reading
         where
           go : Read → Denotes zone text t
-          go (fault f g) = absurd (no-time f (timeBits t) (sym g ∙ e))
+          go (turned-back f g) = absurd (no-time f (timeBits t) (sym g ∙ e))
           go (instant u d) =
               by-test (leb (natAbs u) timeRange)
               (λ c. let k : InRange u = leb→le (natAbs u) timeRange c in
@@ -99,7 +100,7 @@ module _ (zone text : List ℕ) (a : Accepted zone) where
       to e = go reading
         where
           go : Read → (t : ℤ) × Denotes zone text t × (timeRange < natAbs t)
-          go (fault f g) = absurd (no-instant f (sym g ∙ e))
+          go (turned-back f g) = absurd (no-instant f (sym g ∙ e))
           go (instant u d) =
               by-test (leb (natAbs u) timeRange)
               (λ c. let other : Time (timeBits u) ≡ Refused Instant = answer-inside u (leb→le (natAbs u) timeRange c) ∙ sym (answered u d) ∙ e in
@@ -111,7 +112,7 @@ pub accepted-exactly : (zone text : List ℕ) → AcceptedText zone text ↔ ((v
 accepted-exactly zone text = (λ a. (timeBits (a .t), reads-instant zone text (a .list) (a .t) (a .inside) .1 (a .denotes)), λ w. by-list (w .0) (accepts zone) refl (w .1))
   where
     in-range : (a : Accepted zone) (v : ℕ) → readOutcome zone text ≡ Time v → Read zone text a → AcceptedText zone text
-    in-range a v e (fault f g) = absurd (no-time zone text a f v (sym g ∙ e))
+    in-range a v e (turned-back f g) = absurd (no-time zone text a f v (sym g ∙ e))
     in-range a v e (instant t d) =
         by-test (leb (natAbs t) timeRange)
         (λ c. record { list = a; t = t; denotes = d; inside = leb→le (natAbs t) timeRange c })

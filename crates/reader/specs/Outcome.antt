@@ -6,8 +6,9 @@ use Prim.Native.Nat.{ℕ}
 use lib.Dec.{leb}
 use lib.IntN.{ℤ, natAbs}
 use Rattle.ecma262.specs.Date.{timeRange}
+use Rattle.ecma262.specs.Format.{Form}
 use Rattle.zone.specs.Zone.{Record, accepts, records}
-use Rattle.parser.specs.Reading.{Reading, form, refused, read}
+use Rattle.parser.specs.Reading.{Out, ok, fault, read}
 use Rattle.parser.specs.declared.Fault.{Fault}
 use Rattle.parser.specs.declared.Fault.the-variants.{Short, Bad, Range, Trailing}
 use Rattle.answer.specs.Answer.{timeBits}
@@ -28,9 +29,9 @@ refusalOf Trailing = TextRest
 unfoldable pub answerAt : ℤ → Reply
 answerAt t = cond (leb (natAbs t) timeRange) (Time (timeBits t)) (Refused Instant)
 
-abbrev pub replyFor : List Record → Reading → Reply
-replyFor list (form f) = answerAt (instantOf list f)
-replyFor list (refused f) = Refused (refusalOf f)
+abbrev pub replyFor : List Record → Out Form → Reply
+replyFor list (ok f s) = answerAt (instantOf list f)
+replyFor list (fault f) = Refused (refusalOf f)
 
 unfoldable pub readOutcome : List ℕ → List ℕ → Reply
 readOutcome zone text = cond (accepts zone) (replyFor (records zone) (read text)) (Refused ZoneList)

@@ -3,16 +3,14 @@
 // The original makes the instant in f64. Here it is made in whole numbers and becomes an f64 at the end: the fields of a text are whole, and
 // its years go to ±999,999, where f64 sums would round. The day is calendar's, and the second of a local time local's.
 ghost use mathlib.Core.Path.{_≡_};
-ghost use Prim.Native.Nat.{_+_, _*_, _≤_, _<_};
-ghost use lib.IntN.{pos, natAbs, _-ℤ_};
+ghost use Prim.Native.Nat.{_+_, _-_, _*_, _≤_, _<_};
+ghost use lib.IntN.{pos, natAbs};
 ghost use Rattle.ecma262.specs.Date.{MakeDay, MakeDate};
-ghost use mathlib.Core.List.{[]};
-ghost use Rattle.ecma262.specs.Format.Offset.{offset};
-ghost use Rattle.ecma262.specs.Format.{yearNumber, dateMonth, dateDay, timeHour, timeMinute, timeSecond, timeMs, YearBounds, DateBounds, TimeBounds, ZoneBounds, Bounds, zoneOffset};
+ghost use Rattle.ecma262.specs.Format.{yearNumber, dateFields, timeFields, YearBounds, DateBounds, TimeBounds, ZoneBounds, Bounds};
 ghost use Rattle.zone.specs.Zone.{Accepted, records};
 ghost use Rattle.local.specs.Local.{utcTime};
-ghost use Rattle.parser.specs.Answer.{asYear, asDate, asTime, asZone, asForm};
-ghost use Rattle.reader.specs.Denotes.{lessOffset, instantOf};
+ghost use Rattle.parser.specs.Contracts.{asYear, asDate, asTime, asZone, asForm};
+ghost use Rattle.reader.specs.Denotes.{lessWritten, lessOffset, instantOf};
 ghost use Rattle.reader.specs.Outcome.{refusalOf, answerAt, readOutcome};
 use answer::Refusal;
 use answer::Reply;
@@ -44,7 +42,7 @@ fn year_number(y: Year) -> i64
 // Its month from 0, an absent one being January.
 fn month_of(d: Date) -> u32
     requires { ⌜ DateBounds (asDate d) ⌝ }
-    ensures { λ r. ⌜ (r + 1 ≡ dateMonth (asDate d)) × (r < 12) ⌝ }
+    ensures { λ r. ⌜ (r ≡ dateFields (asDate d) .month - 1) × (r < 12) ⌝ }
 {
     match d {
         Date::ToYear => 0,
@@ -56,7 +54,7 @@ fn month_of(d: Date) -> u32
 // Its day as written, an absent one being the first.
 fn date_of(d: Date) -> u32
     requires { ⌜ DateBounds (asDate d) ⌝ }
-    ensures { λ r. ⌜ (r ≡ dateDay (asDate d)) × (r ≤ 31) ⌝ }
+    ensures { λ r. ⌜ (r ≡ dateFields (asDate d) .day) × (r ≤ 31) ⌝ }
 {
     match d {
         Date::ToYear => 1,
@@ -68,7 +66,7 @@ fn date_of(d: Date) -> u32
 // MakeDay of the fields.
 fn day_of(y: Year, d: Date) -> i64
     requires { ⌜ YearBounds (asYear y) × DateBounds (asDate d) ⌝ }
-    ensures { λ r. ⌜ (r ≡ MakeDay (yearNumber (asYear y)) (pos (dateMonth (asDate d)) -ℤ pos 1) (pos (dateDay (asDate d)))) × (natAbs r ≤ 402_000_000) ⌝ }
+    ensures { λ r. ⌜ (r ≡ MakeDay (yearNumber (asYear y)) (pos (dateFields (asDate d) .month - 1)) (pos (dateFields (asDate d) .day))) × (natAbs r ≤ 402_000_000) ⌝ }
 {
     calendar::day_number(year_number(y), month_of(d), date_of(d) as i64)
 }
@@ -83,7 +81,7 @@ fn clock(hour: u32, minute: u32, second: u32, ms: u32) -> u32
 
 fn clock_count(t: Time) -> u32
     requires { ⌜ TimeBounds (asTime t) ⌝ }
-    ensures { λ r. ⌜ (r ≡ 3_600_000 * timeHour (asTime t) + 60_000 * timeMinute (asTime t) + 1_000 * timeSecond (asTime t) + timeMs (asTime t)) × (r < 100_000_000) ⌝ }
+    ensures { λ r. ⌜ (r ≡ 3_600_000 * timeFields (asTime t) .hour + 60_000 * timeFields (asTime t) .minute + 1_000 * timeFields (asTime t) .second + timeFields (asTime t) .ms) × (r < 100_000_000) ⌝ }
 {
     match t {
         Time::ToMinute { hour, minute } => clock(hour, minute, 0, 0),
@@ -104,7 +102,7 @@ fn clock_count(t: Time) -> u32
 // MakeDate of the day and the time.
 fn fields_time(y: Year, d: Date, time: u32) -> i64
     requires { ⌜ YearBounds (asYear y) × DateBounds (asDate d) × (time < 100_000_000) ⌝ }
-    ensures { λ r. ⌜ (r ≡ MakeDate (MakeDay (yearNumber (asYear y)) (pos (dateMonth (asDate d)) -ℤ pos 1) (pos (dateDay (asDate d)))) (pos time)) × (natAbs r ≤ 37_000_000_000_000_000) ⌝ }
+    ensures { λ r. ⌜ (r ≡ MakeDate (MakeDay (yearNumber (asYear y)) (pos (dateFields (asDate d) .month - 1)) (pos (dateFields (asDate d) .day))) (pos time)) × (natAbs r ≤ 37_000_000_000_000_000) ⌝ }
 {
     day_of(y, d) * 86_400_000 + time as i64
 }
@@ -112,7 +110,7 @@ fn fields_time(y: Year, d: Date, time: u32) -> i64
 // The time t of the fields, less an offset of that sign, hour and minute: `+01:00` is ahead, so its instant is earlier.
 fn less_offset(t: i64, negative: bool, hour: u32, minute: u32) -> i64
     requires { ⌜ (natAbs t ≤ 37_000_000_000_000_000) × (hour ≤ 23) × (minute ≤ 59) ⌝ }
-    ensures { λ r. ⌜ r ≡ lessOffset [] (offset negative hour minute) t ⌝ }
+    ensures { λ r. ⌜ r ≡ lessWritten negative hour minute t ⌝ }
 {
     let ms = clock(hour, minute, 0, 0) as i64;
     if negative { t + ms } else { t - ms }
@@ -129,7 +127,7 @@ fn less_local(zone: &[u8], t: i64) -> i64
 // The time t of the fields, less the offset of a zone as it is written.
 fn less_zone(zone: &[u8], t: i64, z: Zone) -> i64
     requires { ⌜ Accepted (now zone) × (natAbs t ≤ 37_000_000_000_000_000) × ZoneBounds (asZone z) ⌝ }
-    ensures { λ r. ⌜ r ≡ lessOffset (records (now (zone .entry))) (zoneOffset (asZone z)) t ⌝ }
+    ensures { λ r. ⌜ r ≡ lessOffset (records (now (zone .entry))) (asZone z) t ⌝ }
 {
     match z {
         Zone::Absent => less_local(zone, t),

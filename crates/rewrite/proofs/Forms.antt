@@ -2,9 +2,9 @@
 use mathlib.Core.Path.{_≡_, refl, sym, ap, _∙_}
 use mathlib.Core.Bool.{true, false}
 use mathlib.Core.List.{List, _∷_, _++_}
-use Prim.Native.Nat.{ℕ, _+_}
+use Prim.Native.Nat.{ℕ, _-_}
 use native.Mathlib.Omega.{arith}
-use lib.IntN.{ℤ, pos, _-ℤ_}
+use lib.IntN.{ℤ, pos}
 use Rattle.ecma262.specs.Date.{MakeTime, MakeDay, MakeDate, Fields, timeOf}
 use Rattle.ecma262.specs.Written.{WrittenYear, WrittenAs}
 use Rattle.ecma262.specs.Format.{Year, Date, Time, Form, YearBounds, yearNumber, printsYear, printsDate, printsTime, printsZone, Writes}
@@ -13,9 +13,8 @@ use Rattle.ecma262.specs.Format.Date.{toDay}
 use Rattle.ecma262.specs.Format.Time.{toDecimals}
 use Rattle.ecma262.specs.Format.Zone.{zulu}
 use Rattle.ecma262.specs.Format.Form.{timed}
-use Rattle.integers.proofs.Int.{ints, at, _-ᵗ_, read}
 use Rattle.ecma262.proofs.Written.{month-days}
-use Rattle.reader.specs.Denotes.{fieldsTime, instantOf, Denotes}
+use Rattle.reader.specs.Denotes.{instantOf, Denotes}
 
 -- the year of a written text, as the format has it
 pub record YearForm (y : ℤ) (w : List ℕ) : Type 0 where
@@ -47,7 +46,7 @@ module _ {f : Fields} {w : List ℕ} (r : WrittenAs f w) where
       record {
         bounds = (
           y .bounds,
-          record { month-from = omega (arith, r .month-is); month-to = r .month-upto; day-from = r .day-from; day-to = omega (arith, r .day-upto, month-days (f .year) (f .month) (omega (arith, r .month-is, r .month-upto))) },
+          (omega (arith, r .month-is), r .month-upto, r .day-from, omega (arith, r .day-upto, month-days (f .year) (f .month) (omega (arith, r .month-is, r .month-upto)))),
           record { hour-to = omega (arith, r .hour-upto); minute-to = r .minute-upto; second-to = r .second-upto; ms-to = r .ms-upto; midnight = λ e. absurd (omega (arith, e, r .hour-upto)) },
           tt,
         );
@@ -57,14 +56,14 @@ module _ {f : Fields} {w : List ℕ} (r : WrittenAs f w) where
       }
 
   -- a field's month counts from 0
-  month-number : pos (r .month) -ℤ pos 1 ≡ pos (f .month)
-  month-number = let e : r .month ≡ f .month + 1 = r .month-is in omega (ints, read (at (pos (r .month)) -ᵗ at (pos 1)))
+  month-number : r .month - 1 ≡ f .month
+  month-number = omega (arith, r .month-is)
 
   pub written-denotes : (zone : List ℕ) → Denotes zone w (timeOf f)
-  unfolding instantOf fieldsTime
+  unfolding instantOf
   written-denotes zone =
       record {
         form = form;
         writes = written-form;
-        instant = λ i. MakeDate (MakeDay (y .number i) (month-number i) (pos (f .date))) (MakeTime (pos (f .hour)) (pos (f .minute)) (pos (f .second)) (pos (f .ms)));
+        instant = λ i. MakeDate (MakeDay (y .number i) (pos (month-number i)) (pos (f .date))) (MakeTime (pos (f .hour)) (pos (f .minute)) (pos (f .second)) (pos (f .ms)));
       }

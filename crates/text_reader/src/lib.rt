@@ -4,7 +4,7 @@ ghost use mathlib.Core.Path.{_≡_};
 ghost use Prim.Native.Nat.{_≤_};
 ghost use lib.ListN.{length, drop};
 ghost use Rattle.parser.specs.Reading.{read};
-ghost use Rattle.parser.specs.Answer.{asReading};
+ghost use Rattle.parser.specs.Contracts.{asReading};
 
 pub struct Reader<'a> {
     pub text: &'a [u8],

@@ -1,6 +1,6 @@
 -- `parse` is the definition's `read`: each stage by its contract, then the end of the text or `T`. Assumes nothing.
 use borrow.Author.Needs.{needs}
-use Rattle.parser.specs.Reading.{read}
+use Rattle.parser.specs.Reading.{after, read}
 use Rattle.parser.proofs.Steps.{rest-end, rest-other, rest-time}
 use Rattle.parser.proofs.parse.Statement.{statement}
 use Rattle.parser.proofs.parse.Tie as tie
@@ -24,7 +24,7 @@ enum-known-date : tie.Need-enum-known-date
 enum-known-date c = search needs
 
 returns : tie.Need-returns
-unfolding read
+unfolding after read
 returns c =
     rw (← c .before .before .before .before .before .before .before .before .parse-year .ensures .same, c .before .before .before .before .before .before .year .given .1, ← c .before .before .before .before .parse-month .ensures .same, c .before .before .date .given .1)
     (rest-end (c .before .before .before .before .before .before .before .before .before .before .args .text .now) (c .before .before .date .given .0 .1 .0) _ _ (search needs))
@@ -36,7 +36,7 @@ after-date-requires : tie.Need-after-date-requires
 after-date-requires c κs = search needs
 
 returns-2 : tie.Need-returns-2
-unfolding read
+unfolding after read
 returns-2 c =
     rw (c .after-date .ensures, ← c .before .before .before .before .before .before .before .before .before .before .before .parse-year .ensures .same, c .before .before .before .before .before .before .before .before .before .year .given .1, ← c .before .before .before .before .before .before .before .parse-month .ensures .same, c .before .before .before .before .before .date .given .1)
     (rest-other (c .before .before .before .before .before .before .before .before .before .before .before .before .before .args .text .now) (c .before .before .before .before .before .date .given .0 .1 .0) _ _ (search needs) (search needs))
@@ -48,15 +48,15 @@ parse-timed-requires : tie.Need-parse-timed-requires
 parse-timed-requires c κs = search needs
 
 returns-3 : tie.Need-returns-3
-unfolding read
+unfolding after read
 returns-3 c = rw (← c .before .before .before .parse-year .ensures .same, c .before .f .given .1)
 
 returns-4 : tie.Need-returns-4
-unfolding read
+unfolding after read
 returns-4 c = rw (← c .before .before .before .before .before .before .before .parse-year .ensures .same, c .before .before .before .before .before .year .given .1, ← c .before .before .before .parse-month .ensures .same, c .before .f2 .given .1)
 
 returns-5 : tie.Need-returns-5
-unfolding read
+unfolding after read
 returns-5 c =
     rw (← c .before .before .before .before .before .before .before .before .before .before .before .parse-year .ensures .same, c .before .before .before .before .before .before .before .before .before .year .given .1, ← c .before .before .before .before .before .before .before .parse-month .ensures .same, c .before .before .before .before .before .date .given .1)
     (rest-time (c .before .before .before .before .before .before .before .before .before .before .before .before .before .args .text .now) (c .before .before .before .before .before .date .given .0 .1 .0) _ _ (search needs) (search needs) (c .parse-timed .ensures))

@@ -20,7 +20,7 @@ returns-2 : tie.Need-returns-2
 returns-2 c = search needs
 
 returns-3 : tie.Need-returns-3
-returns-3 c = let p = rw (c .before .d .given .1) at (c .before .before .before .pre) in rw (c .before .d .given .1) (refl, p .day-to)
+returns-3 c = let p = rw (c .before .d .given .1) at (c .before .before .before .pre) in rw (c .before .d .given .1) (refl, p .3)
 
 pub date-of-spec : {M : Type 1} → statement M
 date-of-spec = tie.close (tie.spec enum-told enum-told-2 enum-known-d returns returns-2 returns-3)

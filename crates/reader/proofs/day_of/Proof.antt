@@ -1,21 +1,17 @@
--- `reader::day_of` meets its contract: the month as written is one more than the month. Assumes nothing.
+-- `reader::day_of` meets its contract. Assumes nothing.
 use borrow.Author.Needs.{needs}
 use mathlib.Core.Path.{_≡_, sym, _∙_, subst}
-use Prim.Native.Nat.{ℕ, _+_, _≤_}
+use Prim.Native.Nat.{_≤_}
 use native.Mathlib.Omega.{arith}
-use lib.IntN.{ℤ, pos, natAbs, _-ℤ_}
+use lib.IntN.{ℤ, pos, natAbs}
 use mir.Syntax.{w64}
 use mir.Val.{toZ, ofZ}
 use mir.Facts.{toZ-pos}
-use Rattle.integers.proofs.Int.{ints, at, _-ᵗ_, read}
 use Rattle.integers.proofs.Machine.{kept}
 use Rattle.ecma262.specs.Date.{MakeDay}
 use Rattle.calendar.proofs.Counting.{make-day-small}
 use Rattle.reader.proofs.day_of.Statement.{statement}
 use Rattle.reader.proofs.day_of.Tie as tie
-
-month-is : (m n : ℕ) → m + 1 ≡ n → pos m ≡ pos n -ℤ pos 1
-month-is m n e = omega (ints, read (at (pos n) -ᵗ at (pos 1)))
 
 -- ---- the three numbers, as they are handed on
 module _ (c : tie.After-date-of) where
@@ -61,7 +57,7 @@ returns c =
     let m = p .before .month-of in
     let y = p .before .before .year-number in
     let e = kept {w = w64} (record { sfits = c .day-number .ok }) ∙ day-is c in (
-      e ∙ (λ i. MakeDay (y .ensures .0 i) (month-is (m .result) _ (m .ensures .0) i) (pos (p .date-of .ensures .0 i))),
+      e ∙ (λ i. MakeDay (y .ensures .0 i) (pos (m .ensures .0 i)) (pos (p .date-of .ensures .0 i))),
       subst (λ (z : ℤ). natAbs z ≤ 402000000) (sym e) (make-day-small (y .result) (m .result) (y .ensures .1) (m .ensures .1) (pos (p .date-of .result)) (date-small p)),
     )
 

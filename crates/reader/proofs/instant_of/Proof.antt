@@ -4,17 +4,16 @@ use mathlib.Core.Path.{_≡_, sym, ap, _∙_, subst}
 use Prim.Native.Nat.{_≤_}
 use native.Mathlib.Omega.{arith}
 use lib.Dec.{lit<}
-use lib.IntN.{ℤ, pos, natAbs, _-ℤ_}
+use lib.IntN.{ℤ, pos, natAbs}
 use mir.Syntax.{w64}
 use mir.Val.{toZ, ofZ}
 use Rattle.integers.proofs.Machine.{kept}
-use Rattle.ecma262.specs.Date.{MakeDay, MakeDate}
-use Rattle.ecma262.specs.Format.{YearBounds, DateBounds, TimeBounds, ZoneBounds, yearNumber, dateMonth, dateDay, timeHour, timeMinute, timeSecond, timeMs, zoneOffset}
-use Rattle.ecma262.specs.Format.Form.{timed}
+use Rattle.ecma262.specs.Date.{MakeDay, MakeDate, timeOf}
+use Rattle.ecma262.specs.Format.{YearBounds, DateBounds, TimeBounds, ZoneBounds, fields}
 use Rattle.ecma262.proofs.Clock.{make-time}
 use Rattle.zone.specs.Zone.{records}
-use Rattle.parser.specs.Answer.{asYear, asDate, asTime, asZone}
-use Rattle.reader.specs.Denotes.{fieldsTime, lessOffset, instantOf}
+use Rattle.parser.specs.Contracts.{asYear, asDate, asTime, asZone}
+use Rattle.reader.specs.Denotes.{lessOffset, instantOf}
 use Rattle.reader.proofs.instant_of.Statement.{statement}
 use Rattle.reader.proofs.instant_of.Tie as tie
 
@@ -26,14 +25,12 @@ handed : (c : tie.After-fields-time2) → toZ w64 (ofZ w64 (c .fields-time2 .res
 handed c = kept {w = w64} (record { sfits = c .fields-time2 .ok })
 
 -- the time within the day is MakeTime of its fields
-time : (c : tie.After-fields-time2) → let f = c .before .before .before .form2 .given .0 in c .fields-time2 .result ≡ fieldsTime (timed (asYear (f .0)) (asDate (f .1 .0)) (asTime (f .1 .1 .0)) (asZone (f .1 .1 .1 .0)))
-unfolding fieldsTime
+time : (c : tie.After-fields-time2) → let f = c .before .before .before .form2 .given .0 in c .fields-time2 .result ≡ timeOf (fields (asYear (f .0)) (asDate (f .1 .0)) (asTime (f .1 .1 .0)))
 time c =
     let f = c .before .before .before .form2 .given .0 in
-    let t = asTime (f .1 .1 .0) in
+    let x = fields (asYear (f .0)) (asDate (f .1 .0)) (asTime (f .1 .1 .0)) in
     c .fields-time2 .ensures .0
-    ∙ ap (MakeDate (MakeDay (yearNumber (asYear (f .0))) (pos (dateMonth (asDate (f .1 .0))) -ℤ pos 1) (pos (dateDay (asDate (f .1 .0))))))
-    (ap pos (c .before .clock-count .ensures .0) ∙ sym (make-time (timeHour t) (timeMinute t) (timeSecond t) (timeMs t)))
+    ∙ ap (MakeDate (MakeDay (x .year) (pos (x .month)) (pos (x .date)))) (ap pos (c .before .clock-count .ensures .0) ∙ sym (make-time (x .hour) (x .minute) (x .second) (x .ms)))
 
 enum-known-form : tie.Need-enum-known-form
 enum-known-form c = search needs
@@ -60,7 +57,7 @@ less-zone-requires c κs = (
 )
 
 returns : tie.Need-returns
-unfolding instantOf fieldsTime
+unfolding instantOf
 returns c = rw (c .before .before .form .given .1) (kept {w = w64} (record { sfits = c .fields-time .ok }) ∙ c .fields-time .ensures .0)
 
 returns-2 : tie.Need-returns-2
@@ -69,7 +66,7 @@ returns-2 c =
     let zone = c .before .before .before .before .before .before .before .args .zone .now in
     let z = c .before .before .before .before .form2 .given .0 .1 .1 .1 .0 in
     rw (c .before .before .before .before .form2 .given .1)
-    (kept {w = w64} (record { sfits = c .less-zone .ok }) ∙ c .less-zone .ensures ∙ ap (lessOffset (records zone) (zoneOffset (asZone z))) (handed (c .before) ∙ time (c .before)))
+    (kept {w = w64} (record { sfits = c .less-zone .ok }) ∙ c .less-zone .ensures ∙ ap (lessOffset (records zone) (asZone z)) (handed (c .before) ∙ time (c .before)))
 
 pub instant-of-spec : {M : Type 1} → statement M
 instant-of-spec =

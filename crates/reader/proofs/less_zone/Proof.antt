@@ -1,25 +1,17 @@
 -- `reader::less_zone` meets its contract, case by case. Assumes nothing.
 use borrow.Author.Needs.{needs}
-use mathlib.Core.Path.{_≡_, refl, sym, ap, _∙_, subst}
-use mathlib.Core.Bool.{Bool, true, false}
-use mathlib.Core.List.{List, []}
-use Prim.Native.Nat.{ℕ, _≤_}
+use mathlib.Core.Path.{_≡_, sym, ap, _∙_, subst}
+use Prim.Native.Nat.{_≤_}
 use lib.Dec.{lit≤}
 use lib.IntN.{ℤ, natAbs}
 use mir.Syntax.{w64}
 use mir.Val.{toZ, ofZ}
 use Rattle.integers.proofs.Machine.{kept}
-use Rattle.ecma262.specs.Format.Offset.{offset}
-use Rattle.zone.specs.Zone.{Record, records}
+use Rattle.zone.specs.Zone.{records}
 use Rattle.local.specs.Local.{utcTime}
-use Rattle.reader.specs.Denotes.{lessOffset}
+use Rattle.reader.specs.Denotes.{lessWritten}
 use Rattle.reader.proofs.less_zone.Statement.{statement}
 use Rattle.reader.proofs.less_zone.Tie as tie
-
--- a written offset is the same under every list
-any-list : (list : List Record) (negative : Bool) (h m : ℕ) (t : ℤ) → lessOffset [] (offset negative h m) t ≡ lessOffset list (offset negative h m) t
-any-list list true h m t = refl
-any-list list false h m t = refl
 
 handed : (s : tie.Start) → toZ w64 (ofZ w64 (s .args .t)) ≡ s .args .t
 handed s = kept (s .fits .t)
@@ -68,16 +60,14 @@ returns-3 c =
     let s = c .before .before .before .before .before in
     let z = c .before .before .z .given in
     rw (z .1)
-    (kept {w = w64} (record { sfits = c .less-offset .ok }) ∙ c .less-offset .ensures ∙ ap (lessOffset [] (offset (z .0 .0) (z .0 .1 .0) 0)) (handed s)
-    ∙ any-list (records (s .args .zone .now)) (z .0 .0) (z .0 .1 .0) 0 (s .args .t))
+    (kept {w = w64} (record { sfits = c .less-offset .ok }) ∙ c .less-offset .ensures ∙ ap (lessWritten (z .0 .0) (z .0 .1 .0) 0) (handed s))
 
 returns-4 : tie.Need-returns-4
 returns-4 c =
     let s = c .before .before .before .before .before in
     let z = c .before .before .z2 .given in
     rw (z .1)
-    (kept {w = w64} (record { sfits = c .less-offset2 .ok }) ∙ c .less-offset2 .ensures ∙ ap (lessOffset [] (offset (z .0 .0) (z .0 .1 .0) (z .0 .1 .1 .0))) (handed s)
-    ∙ any-list (records (s .args .zone .now)) (z .0 .0) (z .0 .1 .0) (z .0 .1 .1 .0) (s .args .t))
+    (kept {w = w64} (record { sfits = c .less-offset2 .ok }) ∙ c .less-offset2 .ensures ∙ ap (lessWritten (z .0 .0) (z .0 .1 .0) (z .0 .1 .1 .0)) (handed s))
 
 pub less-zone-spec : {M : Type 1} → statement M
 less-zone-spec =

@@ -7,7 +7,7 @@ use mir.Syntax.{w64}
 use Rattle.integers.proofs.Machine.{kept}
 use Rattle.zone.specs.Zone.{accepts}
 use Rattle.zone.proofs.Rule.{accepts-sound}
-use Rattle.parser.specs.Answer.{asReading, asForm}
+use Rattle.parser.specs.Contracts.{asReading, asForm}
 use Rattle.parser.proofs.Accepts.{read-printed}
 use Rattle.answer.specs.declared.Reply.the-variants.{Refused}
 use Rattle.reader.specs.Outcome.{answerAt}

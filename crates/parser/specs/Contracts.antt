@@ -1,7 +1,7 @@
--- What the code's answers say: the form of a text constructor by constructor, so that nothing is left free, and a stage's place in the
--- text as the bytes from there on. Definitions only. Assumes nothing.
+-- What only inner contracts use. What the code's answers say: the form of a text constructor by constructor, so that nothing is left free,
+-- and a stage's place in the text as the bytes from there on. Definitions only. Assumes nothing.
 use mathlib.Core.Path.{_≡_}
-use mathlib.Core.List.{List}
+use mathlib.Core.List.{List, []}
 use Prim.Native.Nat.{ℕ, _^_, _<_}
 use mathlib.Core.Bool.{Bool, true, cond}
 use lib.Dec.{eqb}
@@ -33,7 +33,7 @@ use Rattle.parser.specs.declared.TimeRead.{TimeRead}
 use Rattle.parser.specs.declared.TimeRead.the-variants as TR
 use Rattle.parser.specs.declared.ZoneRead.{ZoneRead}
 use Rattle.parser.specs.declared.ZoneRead.the-variants as ZR
-use Rattle.parser.specs.Reading.{Reading, form, refused, Out, ok, fault, Reader, digitsAfter}
+use Rattle.parser.specs.Reading.{Out, ok, fault, Reader, digitsAfter}
 
 abbrev pub asYear : Year → format.Year
 asYear (Four y) = format.Year.four y
@@ -59,9 +59,10 @@ abbrev pub asForm : Form → format.Form
 asForm (F.Date y d) = format.Form.date (asYear y) (asDate d)
 asForm (F.Timed y d t z) = format.Form.timed (asYear y) (asDate d) (asTime t) (asZone z)
 
-abbrev pub asReading : Parsed → Reading
-asReading (P.Read f) = form (asForm f)
-asReading (P.Refused f) = refused f
+-- nothing is left of a text that was read
+abbrev pub asReading : Parsed → Out format.Form
+asReading (P.Read f) = ok (asForm f) []
+asReading (P.Refused f) = fault f
 
 -- ---- the stages' answers
 
