@@ -1,5 +1,6 @@
--- Every slice of records has bytes that hold them: `encoded`. So the equality of the two lookups is about every slice. Assumes nothing.
+-- Every slice of records has bytes that hold them: `encoded`. So the equality of the two lookups, and of the two tests, is about every slice. Assumes nothing.
 use mathlib.Core.Path.{_≡_, refl, sym, ap, subst, _∙_}
+use mathlib.Core.Bool.{Bool}
 use mathlib.Core.List.{List, [], _∷_}
 use Prim.Native.Nat.{ℕ, zero, suc, _+_, _*_, _-_, _/_, _%_, _^_, _<_}
 use native.Mathlib.Nat.{add-assoc, mul-comm, mod-eq-of-lt, pow-suc}
@@ -9,13 +10,13 @@ use lib.IntN.{ℤ, pos, negsuc}
 use lib.ListN.{length, getD}
 use lib.Signed.{mag}
 use Rattle.little_endian.specs.Bytes.{littleEndian, twosComplement}
-use Rattle.zone.specs.Zone.{Record, recordAt, records, listed, IsZoneList, Accepted, offsetAt}
+use Rattle.zone.specs.Zone.{Record, recordAt, records, listed, IsZoneList, isZoneList, Accepted, accepts, offsetAt}
 use Rattle.little_endian.proofs.Numbers.{signed-low, signed-high}
 use Rattle.zone.proofs.Rule.{records-length}
 use Rattle.zone_records.specs.declared.ZoneRecord.{ZoneRecord}
 use Rattle.zone_records.specs.Slice.{asRecord, asRecords}
 use Rattle.zone_records.specs.Encoded.{bytesThen, unsigned, encoded, Representable}
-use Rattle.zone_records.proofs.Same.{same-lookup}
+use Rattle.zone_records.proofs.Same.{same-lookup, same-accept}
 
 -- ---- n bytes, and what stands after them
 past : (n x : ℕ) (rest : List ℕ) (i : ℕ) → getD (bytesThen n x rest) (n + i) 0 ≡ getD rest i 0
@@ -123,3 +124,7 @@ encoded-accepted zs m rule =
 
 pub encoded-lookup : (zs : List ZoneRecord) → Representable zs → (t r s : ℤ) → r ≡ offsetAt (records (encoded zs)) t → s ≡ offsetAt (asRecords zs) t → s ≡ r
 encoded-lookup zs m = same-lookup (encoded zs) zs (encoded-records zs m)
+
+-- a slice is accepted exactly when its bytes are
+pub encoded-accept : (zs : List ZoneRecord) → Representable zs → (r s : Bool) → r ≡ accepts (encoded zs) → s ≡ isZoneList (asRecords zs) → s ≡ r
+encoded-accept zs m = same-accept (encoded zs) zs (encoded-records zs m) (encoded-length zs)

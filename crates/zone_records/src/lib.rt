@@ -2,12 +2,31 @@
 ghost use mathlib.Core.Path.{_≡_};
 ghost use Prim.Native.Nat.{_+_, _*_, _/_, _≤_};
 ghost use lib.ListN.{length, take};
-ghost use Rattle.zone.specs.Zone.{recordAt, records, IsZoneList, Accepted, offsetAt};
+ghost use Rattle.zone.specs.Zone.{recordAt, records, IsZoneList, isZoneList, Accepted, offsetAt};
 ghost use Rattle.zone_records.specs.Slice.{asRecord, asRecords};
 
 pub struct ZoneRecord {
     pub second: i64,
     pub offset: i32,
+}
+
+// Whether a slice of records is a zone list, by the test that bytes are judged by: each record is judged beside the second before it.
+pub fn accept(zone: &[ZoneRecord]) -> bool
+    ensures { λ r. ⌜ r ≡ isZoneList (asRecords (now (zone .entry))) ⌝ }
+{
+    let n = zone.len();
+    let mut kept = (1 <= n) & (n <= 1024);
+    let mut before = 0;
+    let mut i = 0;
+    while kept & (i < n) {
+        let next = zone[i];
+        kept = (-86399 <= next.offset)
+            & (next.offset <= 86399)
+            & ((i == 0) | (before < next.second));
+        before = next.second;
+        i += 1;
+    }
+    kept
 }
 
 // The offset that a slice of records gives at a second, by halving: `low` is the first record or not after `second`, and from `high` on
@@ -29,7 +48,14 @@ pub fn lookup(zone: &[ZoneRecord], second: i64) -> i32
     zone[low].offset
 }
 
-// The first `n` records of an array: from plain values to a slice and back, so that no caller has a walk.
+// The first `n` records of an array, judged and looked up in: from plain values to a slice and back, so that no caller has a walk.
+pub fn accept_first(all: [ZoneRecord; 1024], n: usize) -> bool
+    requires { ⌜ n ≤ 1024 ⌝ }
+    ensures { λ r. ⌜ r ≡ isZoneList (asRecords (take n all)) ⌝ }
+{
+    accept(&all[..n])
+}
+
 pub fn lookup_first(all: [ZoneRecord; 1024], n: usize, second: i64) -> i32
     requires { ⌜ (n ≤ 1024) × IsZoneList (asRecords (take n all)) ⌝ }
     ensures { λ r. ⌜ r ≡ offsetAt (asRecords (take n all)) second ⌝ }
