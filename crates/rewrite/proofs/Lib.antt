@@ -1,3 +1,2 @@
 mod Forms
-mod Runs
-pub mod Demand3
+pub mod Runs

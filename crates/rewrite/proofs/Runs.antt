@@ -1,5 +1,5 @@
--- The steps behind demand 3 (proofs/Demand3.antt): the one written text of an instant is `isoText`, the ISO writer writes it, the reader
--- reads it back, and rewriting is the two together. Assumes nothing.
+-- The steps behind demand 3 (crates/demands/proofs/Demand3.antt): the one written text of an instant is `isoText`, the ISO writer writes it,
+-- the reader reads it back, and rewriting is the two together. Assumes nothing.
 use mathlib.Core.Path.{_≡_, refl, sym, ap, _∙_, subst}
 use mathlib.Core.List.{List, _++_}
 use mathlib.Core.Logic.{_↔_}

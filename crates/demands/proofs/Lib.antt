@@ -1,0 +1,4 @@
+mod Reading
+mod Writing
+pub mod Demand2
+pub mod Demand3
