@@ -1,5 +1,6 @@
 -- `reader::clock_count` meets its contract. Assumes nothing.
 use borrow.Author.Needs.{needs}
+use native.Mathlib.Omega.{arith}
 use Rattle.reader.proofs.clock_count.Statement.{statement}
 use Rattle.reader.proofs.clock_count.Tie as tie
 
@@ -7,19 +8,19 @@ enum-known-t : tie.Need-enum-known-t
 enum-known-t c = search needs
 
 clock-requires : tie.Need-clock-requires
-clock-requires c κs = let p = rw (c .before .t .given .1) at (c .before .before .before .pre) in (p .hour-to, p .minute-to, p .second-to, p .ms-to)
+clock-requires c κs = let p = rw (c .before .t .given .1) at (c .before .before .before .pre) in (omega (arith, p .hour-to), omega (arith, p .minute-to), omega (arith, p .second-to), omega (arith, p .ms-to))
 
 enum-known-t-2 : tie.Need-enum-known-t-2
 enum-known-t-2 c = search needs
 
 clock-requires-2 : tie.Need-clock-requires-2
-clock-requires-2 c κs = let p = rw (c .before .t2 .given .1) at (c .before .before .before .pre) in (p .hour-to, p .minute-to, p .second-to, p .ms-to)
+clock-requires-2 c κs = let p = rw (c .before .t2 .given .1) at (c .before .before .before .pre) in (omega (arith, p .hour-to), omega (arith, p .minute-to), omega (arith, p .second-to), omega (arith, p .ms-to))
 
 enum-known-t-3 : tie.Need-enum-known-t-3
 enum-known-t-3 c = search needs
 
 clock-requires-3 : tie.Need-clock-requires-3
-clock-requires-3 c κs = let p = rw (c .before .t3 .given .1) at (c .before .before .before .pre) in (p .hour-to, p .minute-to, p .second-to, p .ms-to)
+clock-requires-3 c κs = let p = rw (c .before .t3 .given .1) at (c .before .before .before .pre) in (omega (arith, p .hour-to), omega (arith, p .minute-to), omega (arith, p .second-to), omega (arith, p .ms-to))
 
 returns : tie.Need-returns
 returns c = rw (c .before .before .t .given .1) (c .clock .ensures)

@@ -2,6 +2,7 @@
 use borrow.Author.Needs.{needs}
 use mathlib.Core.Path.{_≡_, sym, ap, _∙_, subst}
 use Prim.Native.Nat.{_≤_}
+use native.Mathlib.Omega.{arith}
 use lib.Dec.{lit≤}
 use lib.IntN.{ℤ, natAbs}
 use mir.Syntax.{w64}
@@ -35,7 +36,7 @@ less-offset-requires : tie.Need-less-offset-requires
 less-offset-requires c κs =
     let s = c .before .before .before .before in
     let b : c .before .z .given .0 .1 .0 ≤ 23 = rw (c .before .z .given .1) at (s .pre .2) in
-    (small s, b, lit≤ tt)
+    (small s, omega (arith, b), lit≤ tt)
 
 enum-known-z-2 : tie.Need-enum-known-z-2
 enum-known-z-2 c = search needs
@@ -44,7 +45,7 @@ less-offset-requires-2 : tie.Need-less-offset-requires-2
 less-offset-requires-2 c κs =
     let s = c .before .before .before .before in
     let b : (c .before .z2 .given .0 .1 .0 ≤ 23) × (c .before .z2 .given .0 .1 .1 .0 ≤ 59) = rw (c .before .z2 .given .1) at (s .pre .2) in
-    (small s, b .0, b .1)
+    (small s, omega (arith, b .0), omega (arith, b .1))
 
 returns : tie.Need-returns
 returns c =

@@ -12,13 +12,13 @@ enum-known-d : tie.Need-enum-known-d
 enum-known-d c = search needs
 
 sub-result : tie.Need-sub-result
-sub-result c = let p = rw (c .before .d .given .1) at (c .before .before .before .pre) in p .0
+sub-result c = let p = rw (c .before .d .given .1) at (c .before .before .before .pre) in omega (arith, p .0)
 
 enum-known-d-2 : tie.Need-enum-known-d-2
 enum-known-d-2 c = search needs
 
 sub-result-2 : tie.Need-sub-result-2
-sub-result-2 c = let p = rw (c .before .d2 .given .1) at (c .before .before .before .pre) in p .0
+sub-result-2 c = let p = rw (c .before .d2 .given .1) at (c .before .before .before .pre) in omega (arith, p .0)
 
 returns : tie.Need-returns
 returns c = rw (c .enum-told .given .1) (refl, omega arith)
