@@ -15,8 +15,8 @@
 --   AcceptedText zone text    list and text are accepted: the text denotes an instant of the range      crates/reader/specs/Denotes
 --   isoText, utcText …        the standard's texts                                                      crates/ecma262/specs/Texts
 --   written value text out    the text is written, or the output is shorter than it (row 11)            crates/writer/specs/Outcome
--- The differential run is no theorem: docs/DIFFERENTIAL.md. That no clause is empty is computed: crates/marked, and `accepted-lists-exist`
--- (proofs/Demand3.antt). The proofs are by the laws that are cited. Assumes nothing.
+-- The differential run is no theorem: docs/DIFFERENTIAL.md. That accepted lists exist, Demand3 says. The proofs are by the laws that are
+-- cited. Assumes nothing.
 use mathlib.Core.Path.{_≡_, sym, ap, _∙_}
 use mathlib.Core.Bool.{Bool, true, false}
 use mathlib.Core.List.{List, [], _++_}
@@ -51,7 +51,8 @@ use Rattle.reader.specs.Outcome.{readOutcome}
 use Rattle.reader.proofs.Denotation.{denotes-unique}
 use Rattle.writer.specs.Outcome.{refused, written}
 use Rattle.writer.specs.Writer.{isoOutcome, utcOutcome, localOutcome}
-use Rattle.demands.specs.Terms.{CalendarAt, CalendarOfYear, built, stepsFrom, readNumber, OfText, NoForm, DenotesOutside, untilSuffix, suffix}
+use Rattle.demands.specs.Terms.{CalendarAt, CalendarOfYear, built, stepsFrom, readNumber, OfText, NoForm, DenotesOutside, untilSuffix, suffix, zeroList, firstIsOne}
+use Rattle.demands.proofs.Cases as cases
 use Rattle.demands.proofs.Reading as reading
 use Rattle.demands.proofs.Writing as writing
 
@@ -118,6 +119,10 @@ pub setters-follow-the-standard : (call : Call) (local : Bool) (zone : List ℕ)
     → setOutcome call local zone time fields ≡ timeReply (stepsFrom call local zone (shiftInZ local (records zone) z) fields)
 unfolding valueFromZ
 setters-follow-the-standard call local zone time fields z p w r e = set-exact call local zone fields p time z w r e
+
+-- the exact domain is not empty: every call, UTC or local, has a record in it
+pub exact-records-exist : (call : Call) (local : Bool) → Passes call local zeroList firstIsOne × Exact call (shiftInZ local (records zeroList) (pos 0)) firstIsOne
+exact-records-exist = cases.exact-records-exist
 
 -- "Every setter but `set_full_year` gives NaN for NaN; that one starts from 0, with no local shift."
 pub setters-of-nan : (call : Call) (local : Bool) (zone : List ℕ) (time : ℕ) (fields : List ℕ) → Passes call local zone fields

@@ -10,7 +10,7 @@
 -- "Demand 3 is about outputs at least as long as the text to be written." The proofs rest on crates/rewrite/proofs/Runs.antt and
 -- what it cites.
 -- Assumes nothing.
-use mathlib.Core.Path.{_≡_, refl}
+use mathlib.Core.Path.{_≡_}
 use mathlib.Core.List.{List}
 use mathlib.Core.Logic.{_↔_}
 use Prim.Native.Nat.{ℕ, _≤_}
@@ -19,9 +19,7 @@ use lib.ListN.{length, replicate}
 use Rattle.ecma262.specs.Date.{InRange}
 use Rattle.ecma262.specs.Texts.{isoText}
 use Rattle.ecma262.specs.Written.{Written}
-use Rattle.little_endian.specs.Bytes.{littleEndian, twosComplement}
-use Rattle.zone.specs.Zone.{Accepted, recordAt, records, isZoneList, accepts}
-use Rattle.zone.proofs.Rule.{accepts-sound}
+use Rattle.zone.specs.Zone.{Accepted}
 use Rattle.answer.specs.Answer.{timeBits}
 use Rattle.answer.specs.declared.Reply.the-variants.{Time, Text}
 use Rattle.reader.specs.Denotes.{Denotes, AcceptedText}
@@ -29,11 +27,11 @@ use Rattle.reader.specs.Outcome.{readOutcome}
 use Rattle.writer.specs.Writer.{isoOutcome}
 use Rattle.rewrite.specs.Rewrite.{rewriteOutcome, runOf}
 use Rattle.rewrite.proofs.Runs as runs
+use Rattle.demands.proofs.Cases as cases
 
 -- Accepted lists exist, so none of the clauses is empty: the list (0, 0), 12 bytes of 0, is one.
 pub accepted-lists-exist : Accepted (replicate 12 0)
-unfolding records recordAt littleEndian twosComplement isZoneList accepts
-accepted-lists-exist = accepts-sound _ refl
+accepted-lists-exist = cases.accepted-lists-exist
 
 -- "For each whole millisecond t within 8,640,000,000,000,000 of zero, exactly one text of 01's written form denotes t by demand 2's
 -- definition": under every list there is one, it is the same for all, and any other that denotes t is it.

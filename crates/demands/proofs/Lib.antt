@@ -1,3 +1,4 @@
+mod Cases
 mod Reading
 mod Writing
 pub mod Demand2

@@ -20,8 +20,8 @@ use Rattle.answer.specs.declared.Reply.{Reply}
 use Rattle.answer.specs.declared.Reply.the-variants.{Time}
 use Rattle.reader.specs.Denotes.{instantOf, Denotes, AcceptedText}
 use Rattle.reader.specs.Outcome.{refusalOf, readOutcome}
-use Rattle.reader.proofs.Answers.{list-refused, answer-inside, answer-beyond}
-use Rattle.reader.proofs.Denotation.{Read, instant, turned-back, reading, answered}
+use Rattle.reader.proofs.Answers.{list-refused}
+use Rattle.reader.proofs.Denotation.{Read, instant, turned-back, reading, reads-instant, reads-outside}
 use Rattle.demands.specs.Terms.{readNumber, OfText, NoForm, DenotesOutside}
 
 abbrev numberOf : Reply → ℕ
@@ -45,10 +45,10 @@ module _ (zone text : List ℕ) where
   module _ (a : Accepted zone) where
     -- an instant in the range, or outside it
     pub inside-answer : (t : ℤ) → Denotes zone text t → InRange t → readOutcome zone text ≡ Time (timeBits t)
-    inside-answer t d h = answered zone text a t d ∙ sym (answer-inside t h)
+    inside-answer t d h = reads-instant zone text a t h .1 d
 
     outside-number : DenotesOutside zone text → readNumber zone text ≡ 9
-    outside-number o = ap numberOf (answered zone text a (o .0) (o .1) ∙ sym (answer-beyond (o .0) (omega (arith, o .2))))
+    outside-number o = ap numberOf (reads-outside zone text a .1 (o .0, o .1, omega (arith, o .2)))
 
     by-instant : (t : ℤ) → Denotes zone text t → Answer
     by-instant t d =

@@ -2,9 +2,10 @@
 -- Assumes nothing.
 use mathlib.Core.Path.{_≡_}
 use mathlib.Core.Bool.{Bool}
-use mathlib.Core.List.{List, _++_}
+use mathlib.Core.List.{List, [], _∷_, _++_}
 use Prim.Native.Nat.{ℕ, _≤_, _<_}
 use lib.IntN.{ℤ, pos, natAbs}
+use lib.ListN.{replicate}
 use lib.Ieee.{Float}
 use Rattle.ecma262.specs.Date.{timeRange, Day, TimeWithinDay, DaysInYear, DayFromYear, TimeFromYear, YearFromTime, DayWithinYear, InLeapYear, MonthFromTime, DateFromTime, WeekDay, HourFromTime, MinFromTime, SecFromTime, msFromTime, MakeTime, MakeDay, MakeDate, MakeFullYear, TimeClip, fieldsOf}
 use Rattle.ecma262.specs.Format.{Form, Writes}
@@ -81,3 +82,13 @@ untilSuffix t = dateStringOf (WeekDay t) (fieldsOf t) ++ ascii " " ++ timeString
 -- the suffix, TimeZoneString of the offset that is looked up "at the local time, the standard at the instant"
 abbrev pub suffix : List ℕ → ℤ → List ℕ
 suffix zone t = timeZoneString (offsetOfSuffix (records zone) t)
+
+-- ---- cases, so that no clause is empty
+
+-- the zone list (0, 0), one record
+abbrev pub zeroList : List ℕ
+zeroList = replicate 12 0
+
+-- a field record whose one field is the first argument, 1: bit 0 and the f64 of 1
+abbrev pub firstIsOne : List ℕ
+firstIsOne = 1 ∷ 0 ∷ 0 ∷ 0 ∷ 0 ∷ 0 ∷ 0 ∷ 0xF0 ∷ 0x3F ∷ []
