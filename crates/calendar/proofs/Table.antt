@@ -1,17 +1,17 @@
 -- The table of the days before each month, by one test over its 24 entries; and the month and the date of a day of the year by that table,
 -- for every number of a day, also past the year's end. Assumes nothing.
-use mathlib.Core.Path.{_≡_, sym, ap, _∙_, subst}
+use mathlib.Core.Path.{_≡_, refl, sym, ap, _∙_, subst}
 use mathlib.Core.Bool.{Bool, cond}
 use mathlib.Core.List.{List, [], _∷_}
-use Prim.Native.Nat.{ℕ, _+_, _*_, _-_, _/_, _≤_, _<_}
+use Prim.Native.Nat.{ℕ, suc, _+_, _*_, _-_, _/_, _≤_, _<_}
+use native.Mathlib.Nat.{le-trans}
 use native.Mathlib.Omega.{arith}
 use borrow.Author.Tests.{le-ltb}
-use lib.Dec.{eqb, eqb→eq, ltb, ltb→lt, nltb→le, lit≤, lit<}
+use lib.Dec.{eqb, eqb→eq, leb, leb→le, ltb, ltb→lt, nltb→le, lit≤, lit<}
 use lib.IntN.{pos, natAbs}
-use lib.ListN.{getD}
-use lib.Signed.{ltZ}
+use lib.ListN.{length, getD}
 use lib.Ieee.{Float, binary64, ofInt}
-use Rattle.ecma262.specs.Date.{daysBefore, monthOf, dateOf}
+use Rattle.ecma262.specs.Date.{monthEnds, firstAfter, daysBefore, monthOf, dateOf}
 use Rattle.integers.proofs.Int.{by-test, by-cond}
 use Rattle.integers.proofs.Table.{all, all-at}
 use Rattle.ecma262.proofs.Months.{each-month, date-from, month-from, month-small}
@@ -36,17 +36,18 @@ month-by-32 leap d h k =
     f : ℕ → ℕ → Bool
     f l d = eqb (monthOf l (pos d)) (cond (ltb d (daysBefore l (d / 32 + 1))) (d / 32) (d / 32 + 1))
 
--- a step of the standard's that is passed over
-passed : (d k : ℕ) (x y : ℕ) → k ≤ d → cond (ltZ (pos d) (pos k)) x y ≡ y
-passed d k x y h = ap (λ b. cond b x y) (le-ltb d k h)
+-- a day that no month before December ends after
+past-each : (ends : List ℕ) (d : ℕ) → ((i : ℕ) → i < length ends → getD ends i 0 ≤ d) → firstAfter ends (pos d) ≡ length ends
+past-each [] d h = refl
+past-each (end ∷ ends) d h = ap (λ b. cond b 0 (suc (firstAfter ends (pos d)))) (le-ltb d end (h 0 (omega arith))) ∙ ap suc (past-each ends d (λ i l. h (suc i) (omega arith)))
 
 -- from the 335th day on it is December, also of a number past the year's end
 pub month-late : (leap d : ℕ) → leap ≤ 1 → 335 ≤ d → monthOf leap (pos d) ≡ 11
 unfolding monthOf
-month-late leap d h k =
-    passed d 31 0 _ (omega arith) ∙ passed d (59 + leap) 1 _ (omega arith) ∙ passed d (90 + leap) 2 _ (omega arith) ∙ passed d (120 + leap) 3 _ (omega arith)
-    ∙ passed d (151 + leap) 4 _ (omega arith) ∙ passed d (181 + leap) 5 _ (omega arith) ∙ passed d (212 + leap) 6 _ (omega arith) ∙ passed d (243 + leap) 7 _ (omega arith)
-    ∙ passed d (273 + leap) 8 _ (omega arith) ∙ passed d (304 + leap) 9 _ (omega arith) ∙ passed d (334 + leap) 10 11 (omega arith)
+month-late leap d h k = past-each (monthEnds leap) d (λ i l. le-trans (leb→le _ _ (all-at (f leap) 11 (all-at (λ l. all (f l) 11) 2 tt leap (omega arith)) i l)) k)
+  where
+    f : ℕ → ℕ → Bool
+    f l i = leb (getD (monthEnds l) i 0) 335
 
 -- the month that monthOf says starts by the day d, for every d
 pub month-by-then : (leap d : ℕ) → leap ≤ 1 → (daysBefore leap (monthOf leap (pos d)) ≤ d) × (monthOf leap (pos d) < 12)

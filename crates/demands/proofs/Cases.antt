@@ -10,7 +10,7 @@ use lib.Ieee.{ofFields, ofBits}
 use lib.Ieee.Scale.{finite}
 use Rattle.integers.specs.Whole.{floorDiv}
 use Rattle.integers.proofs.Table.{all-at}
-use Rattle.ecma262.specs.Date.{DaysInYear, DayFromYear, YearFromTime, monthOf, dateOf}
+use Rattle.ecma262.specs.Date.{DaysInYear, DayFromYear, YearFromTime, monthOf, dateOf, daysBefore}
 use Rattle.ecma262.specs.Domain.{ExactDay, ExactTime}
 use Rattle.float.specs.Whole.{truncZ}
 use Rattle.little_endian.specs.Bytes.{littleEndian, twosComplement}
@@ -69,7 +69,7 @@ clock : {h m s ms : ℤ} → T (leb (natAbs h) 1_000_000) → T (leb (natAbs m) 
 clock a b c d = record { hour = leb→le _ _ a; minute = leb→le _ _ b; second = leb→le _ _ c; milli = leb→le _ _ d }
 
 exact : (call : Call) → Exact call (pos 0) firstIsOne
-unfolding absentZ fieldAt placeOf littleEndian ofBits ofFields ones truncZ DaysInYear DayFromYear YearFromTime monthOf dateOf
+unfolding absentZ fieldAt placeOf littleEndian ofBits ofFields ones truncZ DaysInYear DayFromYear YearFromTime monthOf daysBefore dateOf
 exact build = record { numbers = numbers build; bounds = (day tt tt tt, clock tt tt tt tt) }
 exact setMilliseconds = record { numbers = numbers setMilliseconds; bounds = clock tt tt tt tt }
 exact setSeconds = record { numbers = numbers setSeconds; bounds = clock tt tt tt tt }
