@@ -20,18 +20,12 @@ wholePart x = copysignF (floorF (absF x)) x
 -- ((h * MS_PER_HOUR + m * MS_PER_MINUTE) + s * MS_PER_SECOND) + milli
 abbrev pub joinTime : Float → Float → Float → Float → Float
 joinTime h m s milli =
-    add binary64
-    (add binary64
-    (add binary64 (mul binary64 h (num 3_600_000)) (mul binary64 m (num 60_000)))
-    (mul binary64 s (num 1_000)))
-    milli
+    add binary64 (add binary64 (add binary64 (mul binary64 h (num 3_600_000)) (mul binary64 m (num 60_000))) (mul binary64 s (num 1_000))) milli
 
 -- NaN unless every argument is finite; else their whole parts joined
 unfoldable pub makeTimeF : Float → Float → Float → Float → Float
 makeTimeF hour min sec ms =
-    cond (finite hour && finite min && finite sec && finite ms)
-    (joinTime (wholePart hour) (wholePart min) (wholePart sec) (wholePart ms))
-    nan
+    cond (finite hour && finite min && finite sec && finite ms) (joinTime (wholePart hour) (wholePart min) (wholePart sec) (wholePart ms)) nan
 
 -- y + (m / 12.0).floor()
 unfoldable pub yearOfMonth : Float → Float → Float
@@ -48,11 +42,8 @@ rest mn = cond (ltb 1 mn) 1 0
 -- (day_from_year(ym + rest) - 365.0 * rest + days_within_year_to_end_of_month) * MS_PER_DAY, by the common year's row
 unfoldable pub monthStartF : Float → ℕ → Float
 monthStartF ym mn =
-    mul binary64
-    (add binary64
-    (sub binary64 (dayFromYearF (add binary64 ym (num (rest mn)))) (mul binary64 (num 365) (num (rest mn))))
-    (num (daysBefore 0 mn)))
-    (num 86_400_000)
+    let toMonth = sub binary64 (dayFromYearF (add binary64 ym (num (rest mn)))) (mul binary64 (num 365) (num (rest mn))) in
+    mul binary64 (add binary64 toMonth (num (daysBefore 0 mn))) (num 86_400_000)
 
 -- day(t) + dt - 1.0, of the month's start t; NaN where the year ym is not finite
 unfoldable pub dayOfMonthF : Float → ℕ → Float → Float
@@ -62,8 +53,7 @@ dayOfMonthF ym mn dt = cond (finite ym) (sub binary64 (add binary64 (dayF (month
 unfoldable pub makeDayF : Float → Float → Float → Float
 makeDayF year month date =
     cond (finite year && finite month && finite date)
-    (dayOfMonthF (yearOfMonth (wholePart year) (wholePart month)) (monthOfYear (wholePart month)) (wholePart date))
-    nan
+    (dayOfMonthF (yearOfMonth (wholePart year) (wholePart month)) (monthOfYear (wholePart month)) (wholePart date)) nan
 
 -- x, but NaN where x is not finite
 abbrev pub ifFinite : Float → Float

@@ -16,7 +16,8 @@ use Rattle.ecma262.specs.Format.Time.{toSecond, toDecimals}
 use Rattle.ecma262.specs.Format.Zone.{absent, zulu, toHour}
 use Rattle.ecma262.specs.Format.Form.{date, timed}
 use Rattle.parser.specs.declared.Fault.the-variants.{Range}
-use Rattle.parser.specs.Reading.{ok, fault, after, readYear, readDate, readTime, readZone, hourAllowed, timeAllowed, afterDate, ending, timePart, rest, read}
+use Rattle.parser.specs.Contracts.{hourAllowed}
+use Rattle.parser.specs.Reading.{ok, fault, after, readYear, readDate, readTime, readZone, timeAllowed, afterDate, ending, timePart, rest, read}
 use Rattle.parser.proofs.Stages.{on-after, Clock, year-read, date-read, time-read, zone-read, year-written, date-written, time-written, zone-written, zone-start}
 
 -- ---- hour 24

@@ -3,7 +3,7 @@
 use mathlib.Core.Path.{_≡_}
 use mathlib.Core.List.{List, []}
 use Prim.Native.Nat.{ℕ, _^_, _<_}
-use mathlib.Core.Bool.{Bool, true, cond}
+use mathlib.Core.Bool.{Bool, true, false, cond}
 use lib.Dec.{eqb}
 use lib.ListN.{drop}
 use Rattle.ecma262.specs.Digits.{digits}
@@ -33,7 +33,7 @@ use Rattle.parser.specs.declared.TimeRead.{TimeRead}
 use Rattle.parser.specs.declared.TimeRead.the-variants as TR
 use Rattle.parser.specs.declared.ZoneRead.{ZoneRead}
 use Rattle.parser.specs.declared.ZoneRead.the-variants as ZR
-use Rattle.parser.specs.Reading.{Out, ok, fault, Reader, digitsAfter}
+use Rattle.parser.specs.Reading.{Out, ok, fault, Reader, digitsAfter, after, give}
 
 abbrev pub asYear : Year → format.Year
 asYear (Four y) = format.Year.four y
@@ -104,3 +104,11 @@ outTime text (TR.Refused f) = fault f
 abbrev pub outZone : List ℕ → ZoneRead → Out format.Zone
 outZone text (ZR.Value z next) = ok (asZone z) (drop next text)
 outZone text (ZR.Refused f) = fault f
+
+-- a year of four digits
+abbrev pub fourDigits : Reader format.Year
+fourDigits = after (digitsAfter 4 0) (λ y. give (format.Year.four y))
+
+-- "Hour 24 needs all smaller fields 0", of the fields
+abbrev pub hourAllowed : ℕ → ℕ → ℕ → ℕ → Bool
+hourAllowed hour minute second ms = cond (eqb hour 24) (cond (eqb minute 0) (cond (eqb second 0) (eqb ms 0) false) false) true

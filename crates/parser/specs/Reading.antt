@@ -67,11 +67,9 @@ unfoldable pub signedYear : Bool → ℕ → Reader Year
 signedYear true y s = cond (eqb y 0) (fault Range) (ok (six true y) s)
 signedYear false y s = ok (six false y) s
 
-abbrev pub fourDigits : Reader Year
-fourDigits = after (digitsAfter 4 0) (λ y. give (four y))
-
 unfoldable pub readYear : Reader Year
-readYear = choose 43 (after (digitsAfter 6 0) (signedYear false)) (choose 45 (after (digitsAfter 6 0) (signedYear true)) fourDigits)
+readYear =
+    choose 43 (after (digitsAfter 6 0) (signedYear false)) (choose 45 (after (digitsAfter 6 0) (signedYear true)) (after (digitsAfter 4 0) (λ y. give (four y))))
 
 -- ---- 2. "Then the end, `T`, or `-` and a month 01 to 12; then the end, `T`, or `-` and a day 01 to 31; then the end or `T`."
 
@@ -120,11 +118,8 @@ afterZone (toHour negative h) = Bad
 afterZone (Zone.toMinute negative h m) = Trailing
 
 -- 5. "Hour 24 needs all smaller fields 0"; row 7, after 8: "hour 24 with minute, second or decimals not 0; the offset is free"
-abbrev pub hourAllowed : ℕ → ℕ → ℕ → ℕ → Bool
-hourAllowed hour minute second ms = cond (eqb hour 24) (cond (eqb minute 0) (cond (eqb second 0) (eqb ms 0) false) false) true
-
 abbrev pub timeAllowed : Time → Bool
-timeAllowed t = hourAllowed (timeFields t .hour) (timeFields t .minute) (timeFields t .second) (timeFields t .ms)
+timeAllowed t = cond (eqb (timeFields t .hour) 24) (cond (eqb (timeFields t .minute) 0) (cond (eqb (timeFields t .second) 0) (eqb (timeFields t .ms) 0) false) false) true
 
 unfoldable pub ending : Year → Date → Time → Zone → Reader Form
 ending y d t z [] = cond (timeAllowed t) (ok (timed y d t z) []) (fault Range)

@@ -8,8 +8,8 @@
 ghost use mathlib.Core.Path.{_≡_};
 ghost use Prim.Native.Nat.{_≤_, _<_};
 ghost use lib.ListN.{drop};
-ghost use Rattle.parser.specs.Reading.{digitsAfter, field, signedYear, fourDigits, after, readYear, readDay, readDate, readDecimals, readSecond, readTime, readOffsetMinute, readOffset, readZone, afterDate, afterZone, hourAllowed, timeAllowed, timePart, read};
-ghost use Rattle.parser.specs.Contracts.{Reads, IsBlock, isSign, outDigits, outYear, outDate, outTime, outZone, asYear, asDate, asTime, asZone, asReading};
+ghost use Rattle.parser.specs.Reading.{digitsAfter, field, signedYear, after, readYear, readDay, readDate, readDecimals, readSecond, readTime, readOffsetMinute, readOffset, readZone, afterDate, afterZone, timeAllowed, timePart, read};
+ghost use Rattle.parser.specs.Contracts.{Reads, IsBlock, isSign, fourDigits, hourAllowed, outDigits, outYear, outDate, outTime, outZone, asYear, asDate, asTime, asZone, asReading};
 
 // Why a text is turned back.
 pub enum Fault {

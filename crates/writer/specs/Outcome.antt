@@ -22,9 +22,7 @@ refused f out = record { reply = Refused f; output = out }
 -- the text". Else the call returns the time value and the length, and leaves "every byte past it unchanged".
 unfoldable pub written : ℕ → List ℕ → List ℕ → Outcome
 written value text out =
-    cond (ltb (length out) (length text))
-    (refused Output out)
-    (record { reply = Text value (length text); output = text ++ drop (length text) out })
+    cond (ltb (length out) (length text)) (refused Output out) (record { reply = Text value (length text); output = text ++ drop (length text) out })
 
 -- a call that was lent an output replies `r` and leaves the output `last`, as the outcome says
 pub record Leaves (o : Outcome) (r : Reply) (last : List ℕ) : Type 0 where

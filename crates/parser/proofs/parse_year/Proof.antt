@@ -1,7 +1,8 @@
 -- `parse_year` chooses by the first byte as the definition does. Assumes nothing.
 use borrow.Author.Needs.{needs}
 use Rattle.parser.proofs.Steps.{signs, choose-sign, choose-unsigned}
-use Rattle.parser.specs.Reading.{after, digitsAfter, signedYear, fourDigits, readYear}
+use Rattle.parser.specs.Reading.{after, digitsAfter, signedYear, readYear}
+use Rattle.parser.specs.Contracts.{fourDigits}
 use Rattle.parser.proofs.parse_year.Statement.{statement}
 use Rattle.parser.proofs.parse_year.Tie as tie
 
