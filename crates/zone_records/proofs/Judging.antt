@@ -4,7 +4,7 @@ use mathlib.Core.Path.{_≡_, refl, sym, ap, subst, _∙_}
 use mathlib.Core.Bool.{Bool, true, false, _&&_, _||_, false≢true, and-true}
 use mathlib.Core.List.{List}
 use mathlib.Core.Logic.{_⊎_, inl, inr}
-use Prim.Native.Nat.{ℕ, suc, _+_, _-_, _<_, _≤_, _^_}
+use Prim.Native.Nat.{ℕ, _+_, _-_, _<_, _≤_, _^_}
 use native.Mathlib.Numerals.{add-one}
 use native.Mathlib.Omega.{arith}
 use lib.Dec.{T, eqb, leb, ltb, leb·suc-suc, ltb→lt, nltb→le}
@@ -16,7 +16,7 @@ use mir.Syntax.{w32, w64}
 use mir.Val.{ofZ, toZ}
 use mir.ValLaws.{toZ-ofZ}
 use Rattle.integers.proofs.Machine.{true-T, false-T}
-use Rattle.zone.specs.Zone.{Record, secondOf, offsetOf, keeps, allBelow, isZoneList}
+use Rattle.zone.specs.Zone.{keeps, allBelow, isZoneList}
 use Rattle.zone.proofs.Rule.{all-below-at, at-all-below, is-true, is-false}
 use Rattle.zone_records.specs.declared.ZoneRecord.{ZoneRecord}
 use Rattle.zone_records.specs.Slice.{asRecords}

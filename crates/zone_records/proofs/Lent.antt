@@ -34,10 +34,10 @@ use Rattle.zone_records.proofs.ZoneRecord as T
 use Rattle.zone_records.proofs.ZoneRecord.Laws as T′
 
 abbrev pub All : RattleType
-All = Array T.the-row 1024
+All = Array T.the-row 1025
 
 abbrev pub all : Ty
-all = tyArray T′.mir 1024
+all = tyArray T′.mir 1025
 
 abbrev pub vals : ZoneRecord → List Val
 vals = LL.vals T.the-type T′.the-laws
@@ -45,7 +45,7 @@ vals = LL.vals T.the-type T′.the-laws
 abbrev pub machine : List ZoneRecord → Val
 machine zs = arrayVal (map (λ (z : ZoneRecord). LL.tuple-val T.the-type T′.the-laws (T.the-type .to z)) zs)
 
-room : Room T.the-row 1024
+room : Room T.the-row 1025
 room = (lit< tt, lit< tt)
 
 -- the slice of the first n records of the array at l, under the name γ
@@ -53,30 +53,30 @@ abbrev pub sliceAt : List ZoneRecord → ℕ → ℕ → GName → RefT (List Zo
 sliceAt zs n l γ = record { ptr = (l, 0); name = γ; now = take n zs }
 
 pub all-typed : {M : Type 1} (𝓤 : URA M) (H : Heap 𝓤) (A : Atoms 𝓤) → Given 𝓤 H A → (zs : List ZoneRecord) → Is All zs (array-vals vals zs) → Holds (hasTy all (machine zs)) × WT (machine zs)
-all-typed 𝓤 H A W zs is = array-typed T.the-row (LL.lawful T.the-type T′.the-laws 𝓤 H A W .typed) 1024 zs (machine zs ∷ []) is .0
+all-typed 𝓤 H A W zs is = array-typed T.the-row (LL.lawful T.the-type T′.the-laws 𝓤 H A W .typed) 1025 zs (machine zs ∷ []) is .0
 
 module _ {M : Type 1} {𝓤 : URA M} {H : Heap 𝓤} {A : Atoms 𝓤} {K : Type 0} {W : Given 𝓤 H A} {Γ : List (Item 𝓤)} {G : Goal 𝓤 H} where
-  pub lends-first : K → Soaks G → (zs : List ZoneRecord) → Is All zs (array-vals vals zs) → (n : ℕ) → n ≤ 1024 → (l : ℕ)
+  pub lends-first : K → Soaks G → (zs : List ZoneRecord) → Is All zs (array-vals vals zs) → (n : ℕ) → n ≤ 1025 → (l : ℕ)
       → ((ν : ℕ) (γ : GName) → Seq K W (‵ (ShrSlice (named 0) (ν ∷ []) T.the-row .own (sliceAt zs n l γ) (sliceVal (l, 0) n ∷ [])) ∷ ‵ (flent (ν ∷ []) (Front T.the-row fullShare l 0 n zs)) ∷ ‵ (flft (ν ∷ []) fullShare) ∷ ‵ (Rest T.the-row fullShare l 0 n zs) ∷ Γ) G)
       → Seq K W (‵ (fat fullShare all l 0 (machine zs)) ∷ Γ) G
   unfolding partOf
   lends-first t a zs is n few l k =
       use1 W (‵ (cellAt fullShare (All .mir) (machine zs ∷ []) l 0)) (W .laws .at-raw fullShare all l 0 (machine zs)) $
-      owned t All (Is All) (array-makes 𝓤 H A W T.the-row (LL.makes T.the-type T′.the-plain 𝓤 H A) 1024) zs (machine zs ∷ []) is $ move t (1 ∷ 0 ∷ []) $ fjoin t $
+      owned t All (Is All) (array-makes 𝓤 H A W T.the-row (LL.makes T.the-type T′.the-plain 𝓤 H A) 1025) zs (machine zs ∷ []) is $ move t (1 ∷ 0 ∷ []) $ fjoin t $
       fpack t (List Val) (λ us. fsep (cellAt fullShare (All .mir) us l 0) (All .own zs us)) (machine zs ∷ []) $
-      use1 W (‵ (arr-parts (shares T.the-row) 1024 .part fullShare zs l 0)) (array-apart 𝓤 H A W T.the-row fullShare tt 1024 zs l 0) $
-      use1 W (‵ (Front T.the-row fullShare l 0 n zs) ⊛ ‵ (Rest T.the-row fullShare l 0 n zs)) (front-out T.the-row fullShare l 0 n zs 𝓤 H A W 1024) $ split t $
+      use1 W (‵ (arr-parts (shares T.the-row) 1025 .part fullShare zs l 0)) (array-apart 𝓤 H A W T.the-row fullShare tt 1025 zs l 0) $
+      use1 W (‵ (Front T.the-row fullShare l 0 n zs) ⊛ ‵ (Rest T.the-row fullShare l 0 n zs)) (front-out T.the-row fullShare l 0 n zs 𝓤 H A W 1025) $ split t $
       lft-new t a (λ ν. move t (1 ∷ []) $
       use1 W (later (some (λ (γ : GName). ‵ (ShrSlice (named 0) (ν ∷ []) T.the-row .own (sliceAt zs n l γ) (sliceVal (l, 0) (length (take n zs)) ∷ [])) ⊛ ‵ (flent (ν ∷ []) (Front T.the-row fullShare l 0 n zs)))))
-      (lends-shr-slice 𝓤 H A W T.the-row (named 0) (ν ∷ []) fullShare (take n zs) l 0 (room-take T.the-row 1024 n zs (is .1 .0 .1) room)) $ await t a $ pick t (λ γ. split t $
+      (lends-shr-slice 𝓤 H A W T.the-row (named 0) (ν ∷ []) fullShare (take n zs) l 0 (room-take T.the-row 1025 n zs (is .1 .0 .1) room)) $ await t a $ pick t (λ γ. split t $
       rewrite t 0 (λ (m : ℕ). ‵ (ShrSlice (named 0) (ν ∷ []) T.the-row .own (sliceAt zs n l γ) (sliceVal (l, 0) m ∷ []))) (length-take-le n zs (omega (arith, few, is .1 .0 .1))) refl $ k ν γ))
 
   pub first-back : K → Soaks G → (zs : List ZoneRecord) → Is All zs (array-vals vals zs) → (n l ν : ℕ)
       → Step K W (‵ (fat fullShare all l 0 (machine zs)) ∷ Γ) G (‵ (flft (ν ∷ []) fullShare) ∷ ‵ (flent (ν ∷ []) (Front T.the-row fullShare l 0 n zs)) ∷ ‵ (Rest T.the-row fullShare l 0 n zs) ∷ Γ) G
   unfolding partOf
   first-back t a zs is n l ν =
-      step (λ k. lft-end t a $ lent-back t a $ use2 W (‵ (arr-parts (shares T.the-row) 1024 .part fullShare zs l 0)) (front-in T.the-row fullShare l 0 n zs 𝓤 H A W 1024 (is .1 .0 .1)) $
-      use1 W (‵ (partAt All fullShare zs l 0)) (array-whole 𝓤 H A W T.the-row fullShare 1024 zs l 0) $
+      step (λ k. lft-end t a $ lent-back t a $ use2 W (‵ (arr-parts (shares T.the-row) 1025 .part fullShare zs l 0)) (front-in T.the-row fullShare l 0 n zs 𝓤 H A W 1025 (is .1 .0 .1)) $
+      use1 W (‵ (partAt All fullShare zs l 0)) (array-whole 𝓤 H A W T.the-row fullShare 1025 zs l 0) $
       fpick t (λ us. fsplit t $ move t (1 ∷ []) $ peeks t All (Is All) (shows 𝓤 H A All) zs us (λ is′. drop t $
-      rewrite t 0 (λ (ws : List Val). ‵ (cellAt fullShare (All .mir) ws l 0)) (array-tells T.the-row vals (LL.tells T.the-type T′.the-laws) 1024 zs us is′) refl $
+      rewrite t 0 (λ (ws : List Val). ‵ (cellAt fullShare (All .mir) ws l 0)) (array-tells T.the-row vals (LL.tells T.the-type T′.the-laws) 1025 zs us is′) refl $
       use1 W (‵ (fat fullShare all l 0 (machine zs))) (W .laws .raw-at fullShare all l 0 (machine zs)) $ k)))

@@ -2,6 +2,5 @@ pub mod Halving
 pub mod Judging
 pub mod Part
 pub mod Lent
-pub mod Decoding
 pub mod Same
 pub mod Encoding

@@ -1,6 +1,6 @@
 -- "searched by a thin lookup proved equal to the byte form's": whatever the functions answer, of bytes and of a slice that holds their records,
 -- is the same, since the contracts name one definition. So it is with `accept` of bytes and of a slice. Assumes nothing.
-use mathlib.Core.Path.{_≡_, sym, ap, _∙_, subst}
+use mathlib.Core.Path.{_≡_, sym, ap, _∙_}
 use mathlib.Core.Bool.{Bool, _&&_}
 use mathlib.Core.List.{List}
 use Prim.Native.Nat.{ℕ, _*_}
@@ -9,17 +9,13 @@ use lib.Dec.{eqb}
 use lib.IntN.{ℤ}
 use lib.ListN.{length}
 use mir.Facts.{yes-eqb}
-use Rattle.zone.specs.Zone.{Record, records, IsZoneList, isZoneList, Accepted, accepts, offsetAt}
+use Rattle.zone.specs.Zone.{Record, records, isZoneList, accepts, offsetAt}
 use Rattle.zone.proofs.Rule.{is-true}
 use Rattle.zone_records.specs.declared.ZoneRecord.{ZoneRecord}
 use Rattle.zone_records.specs.Slice.{asRecords}
 use Rattle.zone_records.proofs.Halving.{records-length}
 
 module _ (bytes : List ℕ) (zone : List ZoneRecord) (holds : records bytes ≡ asRecords zone) where
-  -- what accepted bytes hold satisfies the rule, so that `lookup` may be asked
-  pub slice-rule : Accepted bytes → IsZoneList (asRecords zone)
-  slice-rule a = subst IsZoneList holds (a .rule)
-
   -- r is what `zone::lookup` ensures of the bytes, and s what `lookup` ensures of the slice
   pub same-lookup : (t r s : ℤ) → r ≡ offsetAt (records bytes) t → s ≡ offsetAt (asRecords zone) t → s ≡ r
   same-lookup t r s of-bytes of-slice = of-slice ∙ ap (λ (list : List Record). offsetAt list t) (sym holds) ∙ sym of-bytes

@@ -5,10 +5,10 @@ use Rattle.zone_records_main.proofs.answer.Statement.{statement}
 use Rattle.zone_records_main.proofs.answer.Tie as tie
 
 abbrev Inv-loop : tie.InvT-loop
-Inv-loop list i₀ i = i ≤ 2057
+Inv-loop all n i₀ i = i ≤ 2057
 
 abbrev μ-loop : tie.MeasureT-loop
-μ-loop list i₀ i = 2057 - i
+μ-loop all n i₀ i = 2057 - i
 
 loop-holds : tie.Need-loop-holds Inv-loop μ-loop
 loop-holds c = search needs
@@ -16,8 +16,8 @@ loop-holds c = search needs
 second-requires : tie.Need-second-requires Inv-loop μ-loop
 second-requires c κs = search needs
 
-lookup-records-requires : tie.Need-lookup-records-requires Inv-loop μ-loop
-lookup-records-requires c κs = search needs
+lookup-first-requires : tie.Need-lookup-first-requires Inv-loop μ-loop
+lookup-first-requires c κs = search needs
 
 write-requires : tie.Need-write-requires Inv-loop μ-loop
 write-requires c κs = search needs
@@ -35,4 +35,4 @@ returns : tie.Need-returns Inv-loop μ-loop
 returns c = search needs
 
 pub answer-spec : {M : Type 1} → statement M
-answer-spec = tie.close (tie.spec Inv-loop μ-loop loop-holds second-requires lookup-records-requires write-requires add-i loop-less loop-again returns)
+answer-spec = tie.close (tie.spec Inv-loop μ-loop loop-holds second-requires lookup-first-requires write-requires add-i loop-less loop-again returns)

@@ -1,30 +1,37 @@
--- `zone_records_main::main` is safe: what `accept` has accepted may be asked. Assumes nothing.
-use mathlib.Core.Path.{sym, _∙_}
+-- `zone_records_main::main` is safe and ends. Assumes nothing.
 use borrow.Author.Needs.{needs}
-use Rattle.zone.proofs.Rule.{accepts-sound}
 use Rattle.zone_records_main.proofs.main.Statement.{statement}
 use Rattle.zone_records_main.proofs.main.Tie as tie
 
-slice-aggregate-read-full : tie.Need-slice-aggregate-read-full
-slice-aggregate-read-full c = search needs
+abbrev Inv-loop : tie.InvT-loop
+Inv-loop left₀ left = Unit {0}
 
-read-full-requires : tie.Need-read-full-requires
-read-full-requires c κs = search needs
+abbrev μ-loop : tie.MeasureT-loop
+μ-loop left₀ left = left
 
-slice-aggregate-list : tie.Need-slice-aggregate-list
-slice-aggregate-list c = search needs
+loop-holds : tie.Need-loop-holds Inv-loop μ-loop
+loop-holds c = tt
 
-accept-requires : tie.Need-accept-requires
-accept-requires c κs = search needs
+next-size-requires : tie.Need-next-size-requires Inv-loop μ-loop
+next-size-requires c κs = search needs
 
-answer-requires : tie.Need-answer-requires
-answer-requires c κs = accepts-sound _ (sym (c .before .accept .ensures) ∙ c .if1 .taken)
-
-returns : tie.Need-returns
+returns : tie.Need-returns Inv-loop μ-loop
 returns c = search needs
 
-returns-2 : tie.Need-returns-2
+judge-requires : tie.Need-judge-requires Inv-loop μ-loop
+judge-requires c κs = search needs
+
+sub-left : tie.Need-sub-left Inv-loop μ-loop
+sub-left c = search needs
+
+loop-less : tie.Need-loop-less Inv-loop μ-loop
+loop-less c = search needs
+
+loop-again : tie.Need-loop-again Inv-loop μ-loop
+loop-again c = tt
+
+returns-2 : tie.Need-returns-2 Inv-loop μ-loop
 returns-2 c = search needs
 
 pub main-spec : {M : Type 1} → statement M
-main-spec = tie.close (tie.spec slice-aggregate-read-full read-full-requires slice-aggregate-list accept-requires answer-requires returns returns-2)
+main-spec = tie.close (tie.spec Inv-loop μ-loop loop-holds next-size-requires returns judge-requires sub-left loop-less loop-again returns-2)
