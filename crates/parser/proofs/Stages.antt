@@ -119,8 +119,8 @@ date-read s d t e =
     on-choose 45 _ _ e
     (λ r q e₁. on-field 1 12 _ e₁ λ m r₁ a b q₁ e₂.
     on-choose 45 _ _ e₂
-    (λ r₂ q₂ e₃. on-field 1 31 _ e₃ λ v r₃ c g q₃ e₄. on-give (toDay m v) e₄ λ p q₄.
-    part printsDate DateBounds (toDay m v) p (a, b, c, g) (rw (q, q₁, q₂, q₃, q₄)))
+    (λ r₂ q₂ e₃. on-field 1 _ _ e₃ λ v r₃ c g q₃ e₄. on-give (toDay m v) e₄ λ p q₄.
+    part printsDate DateBounds (toDay m v) p (a, b, c, omega (arith, g)) (rw (q, q₁, q₂, q₃, q₄)))
     (λ e₃. on-give (toMonth m) e₃ λ p q₂. part printsDate DateBounds (toMonth m) p (a, b) (rw (q, q₁, q₂))))
     (λ e₁. on-give toYear e₁ λ p q. part printsDate DateBounds toYear p tt q)
 
