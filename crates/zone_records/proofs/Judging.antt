@@ -22,7 +22,7 @@ use Rattle.zone_records.specs.declared.ZoneRecord.{ZoneRecord}
 use Rattle.zone_records.specs.Slice.{asRecords}
 use Rattle.zone_records.proofs.Halving.{none, records-length, second-is, offset-is}
 
--- ---- one record's test, of the numbers as the machine has them
+-- ---- one record's test, of the numbers as the machine has them: -86,399 is 2^32 - 86,399 = 4,294,880,897 in 32 bits
 abbrev pub judges : ℕ → ℤ → ZoneRecord → Bool
 judges i before z =
     leZ (toZ w32 4294880897) (toZ w32 (ofZ w32 (z .offset))) && leZ (toZ w32 (ofZ w32 (z .offset))) (toZ w32 86399)

@@ -11,7 +11,8 @@ pub struct ZoneRecord {
     pub offset: i32,
 }
 
-// Whether a slice of records is a zone list, by the test that bytes are judged by: each record is judged beside the second before it.
+// Whether a slice of records is a zone list, by the test that bytes are judged by: each record is judged beside the second before it. The tests
+// are joined by `&` and `|`, so that a turn has one way through it, and its walk as well.
 pub fn accept(zone: &[ZoneRecord]) -> bool
     ensures { λ r. ⌜ r ≡ isZoneList (asRecords (now (zone .entry))) ⌝ }
 {

@@ -174,7 +174,7 @@ module _ {M : Type 1} (𝓤 : URA M) (H : Heap 𝓤) (A : Atoms 𝓤) (W : Given
         assigns ! (bin ! (load ! (from ! (stop !)) (look ! 6 refl)) (load ! (from ! (stop !)) (look ! 4 refl)) tt) (from ! (stop !)) (init ! 2 refl (tt, tt)) $
         assigns ! (bin ! (load ! (from ! (stop !)) (look ! 8 refl)) (load ! (from ! (stop !)) (look ! 2 refl)) tt) (from ! (stop !)) (store ! 30 refl (tt, tt)) $
         assigns ! (of-opd ! (load ! (from ! (fld ! refl (stop !))) (look-in ! 24 (sub ! 0 refl (whole !))))) (from ! (stop !)) (store ! 28 refl (tt, ofZ-fits w64 (getD ys (a .i) none .second) (record { sfits = g .1 .1 .0 .1 }))) $
-        assigns-last ! (bin ! (load ! (from ! (stop !)) (look ! 26 refl)) (lit ! tt) (record { fits = next-fits })) (from ! (stop !)) (store ! 26 refl (tt, record { fits = next-fits })) $
+        assigns-last ! (bin ! (load ! (from ! (stop !)) (look ! 26 refl)) (lit ! tt) (record { fits = omega (arith, gn .1, inside) })) (from ! (stop !)) (store ! 26 refl (tt, record { fits = omega (arith, gn .1, inside) })) $
         forget ! 2 refl $ forget ! 4 refl $ forget ! 6 refl $ forget ! 8 refl $ forget ! 10 refl $ forget ! 12 refl $ forget ! 14 refl $ forget ! 16 refl $ forget ! 18 refl $ forget ! 24 refl $
         again ! (Nearer ys) At a (judged-more ys a e (g .1 .1 .0 .1) (g .1 .1 .1 .0 .1)) (omega (arith, inside))))
       where
@@ -183,9 +183,6 @@ module _ {M : Type 1} (𝓤 : URA M) (H : Heap 𝓤) (A : Atoms 𝓤) (W : Given
 
         place-fits : a .i * 16 < 2 ^ 64
         place-fits = omega (arith, gn .1, inside)
-
-        next-fits : a .i + 1 < 2 ^ 64
-        next-fits = omega (arith, gn .1, inside)
 
         typed : Is T.the-row (getD ys (a .i) none) (vals (getD ys (a .i) none)) → Holds (hasTy T′.mir (mach (getD ys (a .i) none))) × WT (mach (getD ys (a .i) none))
         typed g = LL.lawful T.the-type T′.the-laws 𝓤 H A W .typed (getD ys (a .i) none) _ g .0
