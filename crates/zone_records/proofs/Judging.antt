@@ -66,22 +66,22 @@ module _ (list : List ZoneRecord) where
       ∙ (λ j. bounded-is (at a .offset) j && order-is i (a .before) (getD list (i - 1) none .second) (at a .second) (a .behind) j)
       ∙ (λ j. leb (natAbs (sym (offset-is list i) j)) 86399 && (eqb i 0 || ltZ (sym (second-is list (i - 1)) j) (sym (second-is list i) j)))
 
-  pub one-more : (f e k b : Bool) → (f && e) ≡ true → b ≡ k → b ≡ (f && (e && k))
-  one-more true e k b h q = q ∙ ap (λ (x : Bool). x && k) (sym h)
-  one-more false e k b h q = absurd (false≢true h)
+  pub one-more : (f e k : Bool) → (f && e) ≡ true → k ≡ (f && (e && k))
+  one-more true e k h = ap (λ (x : Bool). x && k) (sym h)
+  one-more false e k h = absurd (false≢true h)
 
   -- one record more is judged, where all before it kept the rule
-  abbrev pub judged-more : (a : Judged) → (a .kept && ltb (a .i) (length list)) ≡ true → mag (at a .second) < 2 ^ 63 → mag (at a .offset) < 2 ^ 31 → Judged
-  judged-more a e s o =
+  abbrev pub judged-more : (a : Judged) → (a .kept && ltb (a .i) (length list)) ≡ true → mag (at a .second) < 2 ^ 63 → Judged
+  judged-more a e s =
       record {
         i = a .i + 1;
-        kept = judges (a .i) (a .before) (at a);
+        kept = keeps (asRecords list) (a .i);
         before = at a .second;
         within = omega (arith, ltb→lt (a .i) (length list) (both .1));
         fits = s;
         behind = inr (ap (λ (k : ℕ). getD list k none .second) (let back : a .i ≡ a .i + 1 - 1 = omega arith in back));
         so-far =
-            one-more few (allBelow (a .i) (keeps (asRecords list))) (keeps (asRecords list) (a .i)) _ (sym (a .so-far) ∙ is-true (a .kept) (both .0)) (judges-is a s o)
+            one-more few (allBelow (a .i) (keeps (asRecords list))) (keeps (asRecords list) (a .i)) (sym (a .so-far) ∙ is-true (a .kept) (both .0))
             ∙ ap (λ (k : ℕ). few && allBelow k (keeps (asRecords list))) (sym (add-one (a .i)));
       }
     where

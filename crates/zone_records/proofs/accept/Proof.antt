@@ -50,7 +50,7 @@ use Rattle.zone.specs.Zone.{isZoneList}
 use Rattle.zone_records.specs.Slice.{asRecords}
 use Rattle.zone_records.specs.declared.ZoneRecord.{ZoneRecord}
 use Rattle.zone_records.proofs.Halving.{none}
-use Rattle.zone_records.proofs.Judging.{Judged, judged-none, judged-more, judged-all}
+use Rattle.zone_records.proofs.Judging.{Judged, judged-none, judges-is, judged-more, judged-all}
 use Rattle.zone_records.proofs.ZoneRecord as T
 use Rattle.zone_records.proofs.ZoneRecord.Laws as T′
 use Rattle.zone_records.proofs.accept.Key.{name as #zone-records·accept}
@@ -176,7 +176,8 @@ module _ {M : Type 1} (𝓤 : URA M) (H : Heap 𝓤) (A : Atoms 𝓤) (W : Given
         assigns ! (of-opd ! (load ! (from ! (fld ! refl (stop !))) (look-in ! 24 (sub ! 0 refl (whole !))))) (from ! (stop !)) (store ! 28 refl (tt, ofZ-fits w64 (getD ys (a .i) none .second) (record { sfits = g .1 .1 .0 .1 }))) $
         assigns-last ! (bin ! (load ! (from ! (stop !)) (look ! 26 refl)) (lit ! tt) (record { fits = omega (arith, gn .1, inside) })) (from ! (stop !)) (store ! 26 refl (tt, record { fits = omega (arith, gn .1, inside) })) $
         forget ! 2 refl $ forget ! 4 refl $ forget ! 6 refl $ forget ! 8 refl $ forget ! 10 refl $ forget ! 12 refl $ forget ! 14 refl $ forget ! 16 refl $ forget ! 18 refl $ forget ! 24 refl $
-        again ! (Nearer ys) At a (judged-more ys a e (g .1 .1 .0 .1) (g .1 .1 .1 .0 .1)) (omega (arith, inside))))
+        -- what was found is the rule's own test of the record
+        rewrite ! 30 (λ (y : Bool). ‵ (fat fullShare tyBool l₃ 0 (vbool y))) (judges-is ys a (g .1 .1 .0 .1) (g .1 .1 .1 .0 .1)) refl $ again ! (Nearer ys) At a (judged-more ys a e (g .1 .1 .0 .1)) (omega (arith, inside))))
       where
         inside : a .i < length ys
         inside = ltb→lt (a .i) (length ys) (and-yes (a .kept) _ (true-T _ e) .1)
