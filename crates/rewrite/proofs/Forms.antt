@@ -2,7 +2,7 @@
 use mathlib.Core.Path.{_≡_, refl, sym, ap, _∙_}
 use mathlib.Core.Bool.{true, false}
 use mathlib.Core.List.{List, _∷_, _++_}
-use Prim.Native.Nat.{ℕ, _-_}
+use Prim.Native.Nat.{ℕ, _+_, _-_}
 use native.Mathlib.Omega.{arith}
 use lib.IntN.{ℤ, pos}
 use Rattle.ecma262.specs.Date.{MakeTime, MakeDay, MakeDate, Fields, timeOf}
@@ -33,7 +33,7 @@ module _ {f : Fields} {w : List ℕ} (r : WrittenAs f w) where
   y = year-form (r .year-is)
 
   abbrev day : Date
-  day = toDay (r .month) (f .date)
+  day = toDay (f .month + 1) (f .date)
 
   abbrev time : Time
   time = toDecimals (f .hour) (f .minute) (f .second) (f .ms)
@@ -46,7 +46,7 @@ module _ {f : Fields} {w : List ℕ} (r : WrittenAs f w) where
       record {
         bounds = (
           y .bounds,
-          (omega (arith, r .month-is), r .month-upto, r .day-from, omega (arith, r .day-upto, month-days (f .year) (f .month) (omega (arith, r .month-is, r .month-upto)))),
+          (omega arith, r .month-upto, r .day-from, omega (arith, r .day-upto, month-days (f .year) (f .month) (omega (arith, r .month-upto)))),
           record { hour-to = omega (arith, r .hour-upto); minute-to = r .minute-upto; second-to = r .second-upto; ms-to = r .ms-upto; midnight = λ e. absurd (omega (arith, e, r .hour-upto)) },
           tt,
         );
@@ -56,8 +56,8 @@ module _ {f : Fields} {w : List ℕ} (r : WrittenAs f w) where
       }
 
   -- a field's month counts from 0
-  month-number : r .month - 1 ≡ f .month
-  month-number = omega (arith, r .month-is)
+  month-number : f .month + 1 - 1 ≡ f .month
+  month-number = omega arith
 
   pub written-denotes : (zone : List ℕ) → Denotes zone w (timeOf f)
   unfolding instantOf
