@@ -18,7 +18,8 @@ use Rattle.zone.specs.Zone.{Accepted, recordAt, records, isZoneList, accepts, d
 use Rattle.zone.proofs.Rule.{accepts-sound}
 use Rattle.local.specs.Local.{askedSecond, offsetOfInstant, localTime}
 use Rattle.field_record.specs.FieldRecord.{stands, hasLength, hasOtherBit, placeOf, fieldAt}
-use Rattle.new_date.specs.Calls.{Call, build, setMilliseconds, setSeconds, setMinutes, setHours, setDate, setMonth, setFullYear, bitsOf}
+use Rattle.new_date.specs.Calls.{Call, build, set, bitsOf}
+use Rattle.new_date.specs.declared.Part.the-variants.{Milliseconds, Seconds, Minutes, Hours, Date, Month, FullYear}
 use Rattle.new_date.specs.Standard.{absentZ, shiftInZ, Finite, Exact, Passes}
 use Rattle.demands.specs.Terms.{zeroList, firstIsOne}
 
@@ -33,13 +34,13 @@ passes call local = record { list = λ l. accepted-lists-exist; filled = refl; k
   where
     known : (call : Call) → hasOtherBit (bitsOf call) firstIsOne ≡ false
     known build = refl
-    known setMilliseconds = refl
-    known setSeconds = refl
-    known setMinutes = refl
-    known setHours = refl
-    known setDate = refl
-    known setMonth = refl
-    known setFullYear = refl
+    known (set Milliseconds) = refl
+    known (set Seconds) = refl
+    known (set Minutes) = refl
+    known (set Hours) = refl
+    known (set Date) = refl
+    known (set Month) = refl
+    known (set FullYear) = refl
 
 numbers : (call : Call) → Finite call firstIsOne
 unfolding fieldAt placeOf littleEndian ofBits ofFields ones
@@ -53,13 +54,13 @@ numbers call =
   where
     wider : (call : Call) (bit : ℕ) → bit < bitsOf call → bit < 7
     wider build bit h = omega arith
-    wider setMilliseconds bit h = omega arith
-    wider setSeconds bit h = omega arith
-    wider setMinutes bit h = omega arith
-    wider setHours bit h = omega arith
-    wider setDate bit h = omega arith
-    wider setMonth bit h = omega arith
-    wider setFullYear bit h = omega arith
+    wider (set Milliseconds) bit h = omega arith
+    wider (set Seconds) bit h = omega arith
+    wider (set Minutes) bit h = omega arith
+    wider (set Hours) bit h = omega arith
+    wider (set Date) bit h = omega arith
+    wider (set Month) bit h = omega arith
+    wider (set FullYear) bit h = omega arith
 
 -- bounds that are computed
 day : {y m dt : ℤ} → T (leb (natAbs (y +ℤ floorDiv m 12)) 280_000) → T (leb (natAbs m) 6_000_000) → T (leb (natAbs dt) 1_000_000) → ExactDay y m dt
@@ -71,13 +72,13 @@ clock a b c d = record { hour = leb→le _ _ a; minute = leb→le _ _ b; second 
 exact : (call : Call) → Exact call (pos 0) firstIsOne
 unfolding absentZ fieldAt placeOf littleEndian ofBits ofFields ones truncZ DaysInYear DayFromYear YearFromTime monthOf daysBefore dateOf
 exact build = record { numbers = numbers build; bounds = (day tt tt tt, clock tt tt tt tt) }
-exact setMilliseconds = record { numbers = numbers setMilliseconds; bounds = clock tt tt tt tt }
-exact setSeconds = record { numbers = numbers setSeconds; bounds = clock tt tt tt tt }
-exact setMinutes = record { numbers = numbers setMinutes; bounds = clock tt tt tt tt }
-exact setHours = record { numbers = numbers setHours; bounds = clock tt tt tt tt }
-exact setDate = record { numbers = numbers setDate; bounds = day tt tt tt }
-exact setMonth = record { numbers = numbers setMonth; bounds = day tt tt tt }
-exact setFullYear = record { numbers = numbers setFullYear; bounds = day tt tt tt }
+exact (set Milliseconds) = record { numbers = numbers (set Milliseconds); bounds = clock tt tt tt tt }
+exact (set Seconds) = record { numbers = numbers (set Seconds); bounds = clock tt tt tt tt }
+exact (set Minutes) = record { numbers = numbers (set Minutes); bounds = clock tt tt tt tt }
+exact (set Hours) = record { numbers = numbers (set Hours); bounds = clock tt tt tt tt }
+exact (set Date) = record { numbers = numbers (set Date); bounds = day tt tt tt }
+exact (set Month) = record { numbers = numbers (set Month); bounds = day tt tt tt }
+exact (set FullYear) = record { numbers = numbers (set FullYear); bounds = day tt tt tt }
 
 -- by the list (0, 0) the local time of 0 is 0
 start : (local : Bool) → pos 0 ≡ shiftInZ local (records zeroList) (pos 0)

@@ -42,7 +42,9 @@ use Rattle.local.proofs.Whole.{local-time-shown}
 use Rattle.answer.specs.Answer.{nanValue, timeBits}
 use Rattle.answer.specs.declared.Refusal.the-variants.{NoTime}
 use Rattle.answer.specs.declared.Reply.the-variants.{Time}
-use Rattle.new_date.specs.Calls.{Call, build, setFullYear}
+use Rattle.new_date.specs.declared.Part.{Part}
+use Rattle.new_date.specs.declared.Part.the-variants.{FullYear}
+use Rattle.new_date.specs.Calls.{Call, build, set}
 use Rattle.new_date.specs.Standard.{argumentZ, newDateZ, shiftInZ, valueFromZ, Exact, Passes}
 use Rattle.fields.specs.Outcome.{timeReply, buildOutcome, setOutcome}
 use Rattle.fields.proofs.Outcomes.{build-exact, set-exact, set-of-nan, set-year-of-nan}
@@ -114,24 +116,24 @@ unfolding newDateZ valueFromZ
 building-local-fields zone fields p e = build-exact true zone fields p e
 
 -- "In the exact domain the setters too are proved to follow the standard's own steps": the date is the whole number z, by any of its bits
-pub setters-follow-the-standard : (call : Call) (local : Bool) (zone : List ℕ) (time : ℕ) (fields : List ℕ) (z : ℤ) → Passes call local zone fields
-    → IsWhole (ofBits binary64 time) z → InRange z → Exact call (shiftInZ local (records zone) z) fields
-    → setOutcome call local zone time fields ≡ timeReply (stepsFrom call local zone (shiftInZ local (records zone) z) fields)
+pub setters-follow-the-standard : (first : Part) (local : Bool) (zone : List ℕ) (time : ℕ) (fields : List ℕ) (z : ℤ) → Passes (set first) local zone fields
+    → IsWhole (ofBits binary64 time) z → InRange z → Exact (set first) (shiftInZ local (records zone) z) fields
+    → setOutcome first local zone time fields ≡ timeReply (stepsFrom (set first) local zone (shiftInZ local (records zone) z) fields)
 unfolding valueFromZ
-setters-follow-the-standard call local zone time fields z p w r e = set-exact call local zone fields p time z w r e
+setters-follow-the-standard first local zone time fields z p w r e = set-exact first local zone fields p time z w r e
 
 -- the exact domain is not empty: every call, UTC or local, has a record in it
 pub exact-records-exist : (call : Call) (local : Bool) → Passes call local zeroList firstIsOne × Exact call (shiftInZ local (records zeroList) (pos 0)) firstIsOne
 exact-records-exist = cases.exact-records-exist
 
 -- "Every setter but `set_full_year` gives NaN for NaN; that one starts from 0, with no local shift."
-pub setters-of-nan : (call : Call) (local : Bool) (zone : List ℕ) (time : ℕ) (fields : List ℕ) → Passes call local zone fields
-    → ofBits binary64 time ≡ nan → (call ≡ setFullYear → ⊥) → setOutcome call local zone time fields ≡ timeReply nan
-setters-of-nan call local zone time fields p n o = set-of-nan call local zone fields p time n o
+pub setters-of-nan : (first : Part) (local : Bool) (zone : List ℕ) (time : ℕ) (fields : List ℕ) → Passes (set first) local zone fields
+    → ofBits binary64 time ≡ nan → (first ≡ FullYear → ⊥) → setOutcome first local zone time fields ≡ timeReply nan
+setters-of-nan first local zone time fields p n o = set-of-nan first local zone fields p time n o
 
-pub full-year-of-nan : (local : Bool) (zone : List ℕ) (time : ℕ) (fields : List ℕ) → Passes setFullYear local zone fields
-    → ofBits binary64 time ≡ nan → Exact setFullYear (pos 0) fields
-    → setOutcome setFullYear local zone time fields ≡ timeReply (stepsFrom setFullYear local zone (pos 0) fields)
+pub full-year-of-nan : (local : Bool) (zone : List ℕ) (time : ℕ) (fields : List ℕ) → Passes (set FullYear) local zone fields
+    → ofBits binary64 time ≡ nan → Exact (set FullYear) (pos 0) fields
+    → setOutcome FullYear local zone time fields ≡ timeReply (stepsFrom (set FullYear) local zone (pos 0) fields)
 unfolding valueFromZ
 full-year-of-nan local zone time fields p n e = set-year-of-nan local zone fields p time n e
 

@@ -14,7 +14,7 @@ use Rattle.float.proofs.Rounding.{number-unique, truncZ-whole}
 use Rattle.calendar.specs.Calendar.{num}
 use Rattle.calendar.proofs.Whole.{num-whole}
 use Rattle.make.specs.Make.{IsTimeValue, timeValue}
-use Rattle.zone.specs.Zone.{Accepted, accepts, records}
+use Rattle.zone.specs.Zone.{Record, Accepted, accepts, records}
 use Rattle.zone.proofs.Rule.{accepts-complete}
 use Rattle.timevalue.specs.declared.TimeValue.{TimeValue}
 use Rattle.timevalue.specs.declared.TimeValue.the-variants as given
@@ -25,102 +25,80 @@ use Rattle.answer.specs.declared.Refusal.{Refusal}
 use Rattle.answer.specs.declared.Refusal.the-variants as fault
 use Rattle.answer.specs.declared.Reply.{Reply}
 use Rattle.answer.specs.declared.Reply.the-variants as reply
-use Rattle.new_date.specs.Calls.{Call, build, setMilliseconds, setSeconds, setMinutes, setHours, setDate, setMonth, setFullYear, bitsOf, shiftIn, absent, newDate, valueFrom}
-use Rattle.fields.specs.Outcome.{valueOfNan, valueOf, refuse, isRefused, zoneRow, timeRow, recordRows, timeReply, buildOutcome, setOutcome}
+use Rattle.new_date.specs.declared.Part.{Part}
+use Rattle.new_date.specs.declared.Part.the-variants.{FullYear}
+use Rattle.new_date.specs.Calls.{build, set, bitsOf, absent, newDate, newDateOf, valueFrom}
+use Rattle.fields.specs.Outcome.{startOf, valueOf, refuse, isRefused, zoneRow, timeRow, recordRows, timeReply, buildOutcome, setOutcome}
 use Rattle.new_date.specs.Standard.{shiftInZ, valueFromZ, Exact, Passes}
-use Rattle.fields.proofs.Rows.{start-whole, build-row}
+use Rattle.fields.proofs.Rows.{start-whole}
 use Rattle.new_date.proofs.Exact.{value-exact}
-use Rattle.new_date.proofs.Values.{from-time-value, given-nan, first-nan}
-use Rattle.fields.proofs.Values.{of-time-value, utc-no-list}
+use Rattle.new_date.proofs.Values.{from-time-value, given-nan, first-nan, nan-date, year-of-nan}
 
 -- ---- past the rows
 list-row : (local : Bool) (zone : List ℕ) → (local ≡ true → Accepted zone) → (local && not (accepts zone)) ≡ false
 list-row false zone l = refl
 list-row true zone l = ap not (accepts-complete zone (l refl))
 
-module _ (call : Call) (local : Bool) (zone fields : List ℕ) (p : Passes call local zone fields) where
-  pub set-value : (time : ℕ) (v : TimeValue) → timeValueOf time ≡ v → isRefused v ≡ false → setOutcome call local zone time fields ≡ timeReply (valueOf call local (records zone) v fields)
+module _ (first : Part) (local : Bool) (zone fields : List ℕ) (p : Passes (set first) local zone fields) where
+  pub set-value : (time : ℕ) (v : TimeValue) → timeValueOf time ≡ v → isRefused v ≡ false → setOutcome first local zone time fields ≡ timeReply (valueOf first local (records zone) v fields)
   unfolding setOutcome
   set-value time v e r = rw (list-row local zone (p .list), e, r, p .filled, p .known)
 
   -- THE LAW of a setter: the date is the whole number z, by any bits of it
-  pub set-exact : (time : ℕ) (z : ℤ) → IsWhole (ofBits binary64 time) z → InRange z → Exact call (shiftInZ local (records zone) z) fields
-      → setOutcome call local zone time fields ≡ timeReply (timeValue (valueFromZ call local (records zone) (shiftInZ local (records zone) z) fields))
+  pub set-exact : (time : ℕ) (z : ℤ) → IsWhole (ofBits binary64 time) z → InRange z → Exact (set first) (shiftInZ local (records zone) z) fields
+      → setOutcome first local zone time fields ≡ timeReply (timeValue (valueFromZ (set first) local (records zone) (shiftInZ local (records zone) z) fields))
+  unfolding startOf
   set-exact time z w r e = go (judge time)
     where
-      go : Judged time → setOutcome call local zone time fields ≡ timeReply (timeValue (valueFromZ call local (records zone) (shiftInZ local (records zone) z) fields))
+      go : Judged time → setOutcome first local zone time fields ≡ timeReply (timeValue (valueFromZ (set first) local (records zone) (shiftInZ local (records zone) z) fields))
       go (is-time t q k) =
           let same : truncZ t ≡ z = number-unique (k .value) w in
           let s = start-whole local (records zone) (λ l. p .list l .rule) (subst (IsWhole t) same (k .time .whole)) r in
-          set-value time (given.Time t) q refl ∙ ap timeReply (value-exact (s .0) (s .1) call local (records zone) (λ l. p .list l .rule) fields e)
+          set-value time (given.Time t) q refl ∙ ap timeReply (value-exact (s .0) (s .1) (set first) local (records zone) (λ l. p .list l .rule) fields e)
       go (is-nan q k) = absurd (subst (λ (x : Float). IsWhole x z) k w .value)
       go (is-refused q j k) = absurd (k (record { whole = subst (IsWhole _) (sym (truncZ-whole w)) w; range = subst InRange (sym (truncZ-whole w)) r }))
 
   -- a field that is not finite gives NaN, whatever the date
-  nan-anyway : (time : ℕ) → ((t : Float) → valueFrom call local (records zone) t fields ≡ nan) → isRefused (timeValueOf time) ≡ false → setOutcome call local zone time fields ≡ timeReply nan
-  unfolding valueOfNan
-  nan-anyway time f r = set-value time (timeValueOf time) refl r ∙ ap timeReply (go (timeValueOf time))
-    where
-      of-nan : (c : Call) → call ≡ c → valueOfNan c local (records zone) fields ≡ nan
-      of-nan build q = refl
-      of-nan setMilliseconds q = refl
-      of-nan setSeconds q = refl
-      of-nan setMinutes q = refl
-      of-nan setHours q = refl
-      of-nan setDate q = refl
-      of-nan setMonth q = refl
-      of-nan setFullYear q = subst (λ (c : Call). valueFrom c local (records zone) (num 0) fields ≡ nan) q (f (num 0))
+  nan-anyway : (time : ℕ) → ((t : Float) → valueFrom (set first) local (records zone) t fields ≡ nan) → isRefused (timeValueOf time) ≡ false → setOutcome first local zone time fields ≡ timeReply nan
+  nan-anyway time f r = set-value time (timeValueOf time) refl r ∙ ap timeReply (f _)
 
-      go : (v : TimeValue) → valueOf call local (records zone) v fields ≡ nan
-      go (given.Time t) = f (shiftIn local (records zone) t)
-      go given.Nan = of-nan call refl
-      go given.Refused = refl
+  pub set-field-nan : (time : ℕ) (i : ℕ) → isRefused (timeValueOf time) ≡ false → i < bitsOf (set first) → stands fields i ≡ true → finite (fieldAt fields i) ≡ false
+      → setOutcome first local zone time fields ≡ timeReply nan
+  set-field-nan time i r h s e = nan-anyway time (λ t. given-nan (set first) local (records zone) t fields i h s e) r
 
-  pub set-field-nan : (time : ℕ) (i : ℕ) → isRefused (timeValueOf time) ≡ false → i < bitsOf call → stands fields i ≡ true → finite (fieldAt fields i) ≡ false
-      → setOutcome call local zone time fields ≡ timeReply nan
-  set-field-nan time i r h s e = nan-anyway time (λ t. given-nan call local (records zone) t fields i h s e) r
-
-  pub set-first-nan : (time : ℕ) → isRefused (timeValueOf time) ≡ false → stands fields 0 ≡ false → setOutcome call local zone time fields ≡ timeReply nan
-  set-first-nan time r s = nan-anyway time (λ t. first-nan call local (records zone) t fields s) r
+  pub set-first-nan : (time : ℕ) → isRefused (timeValueOf time) ≡ false → stands fields 0 ≡ false → setOutcome first local zone time fields ≡ timeReply nan
+  set-first-nan time r s = nan-anyway time (λ t. first-nan (set first) local (records zone) t fields s) r
 
 -- ---- a NaN date: "Every setter but `set_full_year` gives NaN for NaN; that one starts from 0, with no local shift."
-nan-date : (time : ℕ) → ofBits binary64 time ≡ nan → timeValueOf time ≡ given.Nan
-nan-date time e = go (judge time)
+nan-time : (time : ℕ) → ofBits binary64 time ≡ nan → timeValueOf time ≡ given.Nan
+nan-time time e = go (judge time)
   where
     go : Judged time → timeValueOf time ≡ given.Nan
     go (is-time t q k) = absurd (subst (λ (x : Float). IsWhole x (truncZ t)) e (k .value) .value)
     go (is-nan q k) = q
     go (is-refused q j k) = absurd (j e)
 
-pub set-year-of-nan : (local : Bool) (zone fields : List ℕ) → Passes setFullYear local zone fields → (time : ℕ) → ofBits binary64 time ≡ nan → Exact setFullYear (pos 0) fields
-    → setOutcome setFullYear local zone time fields ≡ timeReply (timeValue (valueFromZ setFullYear local (records zone) (pos 0) fields))
-unfolding valueOfNan
+pub set-year-of-nan : (local : Bool) (zone fields : List ℕ) → Passes (set FullYear) local zone fields → (time : ℕ) → ofBits binary64 time ≡ nan → Exact (set FullYear) (pos 0) fields
+    → setOutcome FullYear local zone time fields ≡ timeReply (timeValue (valueFromZ (set FullYear) local (records zone) (pos 0) fields))
+unfolding startOf
 set-year-of-nan local zone fields p time n e =
-    set-value setFullYear local zone fields p time given.Nan (nan-date time n) refl
-    ∙ ap timeReply (value-exact (num-whole 0 (lit≤ tt)) (lit≤ tt) setFullYear local (records zone) (λ l. p .list l .rule) fields e)
+    set-value FullYear local zone fields p time given.Nan (nan-time time n) refl
+    ∙ ap timeReply (year-of-nan local (records zone) fields ∙ value-exact (num-whole 0 (lit≤ tt)) (lit≤ tt) (set FullYear) local (records zone) (λ l. p .list l .rule) fields e)
 
-pub set-of-nan : (call : Call) (local : Bool) (zone fields : List ℕ) → Passes call local zone fields → (time : ℕ) → ofBits binary64 time ≡ nan → (call ≡ setFullYear → ⊥)
-    → setOutcome call local zone time fields ≡ timeReply nan
-unfolding valueOfNan
-set-of-nan call local zone fields p time n other = set-value call local zone fields p time given.Nan (nan-date time n) refl ∙ ap timeReply (go call other)
-  where
-    go : (c : Call) → (c ≡ setFullYear → ⊥) → valueOfNan c local (records zone) fields ≡ nan
-    go build o = refl
-    go setMilliseconds o = refl
-    go setSeconds o = refl
-    go setMinutes o = refl
-    go setHours o = refl
-    go setDate o = refl
-    go setMonth o = refl
-    go setFullYear o = absurd (o refl)
+pub set-of-nan : (first : Part) (local : Bool) (zone fields : List ℕ) → Passes (set first) local zone fields → (time : ℕ) → ofBits binary64 time ≡ nan → (first ≡ FullYear → ⊥)
+    → setOutcome first local zone time fields ≡ timeReply nan
+unfolding startOf
+set-of-nan first local zone fields p time n other =
+    set-value first local zone fields p time given.Nan (nan-time time n) refl ∙ ap timeReply (nan-date first local (records zone) fields other)
 
 -- ---- the builder
 module _ (local : Bool) (zone fields : List ℕ) (p : Passes build local zone fields) where
   build-value : buildOutcome local zone fields ≡ timeReply (valueFrom build local (records zone) nan fields)
-  build-value = sym (build-row local zone fields (list-row local zone (p .list)) (p .filled) (p .known))
+  unfolding buildOutcome
+  build-value = rw (list-row local zone (p .list), p .filled, p .known)
 
   no-start : valueFrom build local (records zone) nan fields ≡ valueFrom build local (records zone) (num 0) fields
-  unfolding valueFrom newDate absent
+  unfolding valueFrom newDateOf newDate absent
   no-start = refl
 
   -- THE LAW of the builder: "building UTC fields is MakeFullYear, MakeDay, MakeTime, MakeDate and TimeClip"; locally with UTC(t) before TimeClip
@@ -153,12 +131,12 @@ record-answer bits fields r a =
     refuse-answer (not (hasLength fields)) fault.RecordLength (refuse reply.Refused (hasOtherBit bits fields) fault.RecordMap r)
     (refuse-answer (hasOtherBit bits fields) fault.RecordMap r a)
 
-pub set-answer : (call : Call) (local : Bool) (zone : List ℕ) (time : ℕ) (fields : List ℕ) → IsAnswer (setOutcome call local zone time fields)
+pub set-answer : (first : Part) (local : Bool) (zone : List ℕ) (time : ℕ) (fields : List ℕ) → IsAnswer (setOutcome first local zone time fields)
 unfolding setOutcome
-set-answer call local zone time fields =
-    let r = timeReply (valueOf call local (records zone) (timeValueOf time) fields) in
-    let rows = recordRows reply.Refused (bitsOf call) fields r in
-    zone-answer local zone (timeRow reply.Refused time rows) (time-answer time rows (record-answer (bitsOf call) fields r (a-time _ (of-time-value call local (records zone) (timeValueOf time) fields))))
+set-answer first local zone time fields =
+    let r = timeReply (valueOf first local (records zone) (timeValueOf time) fields) in
+    let rows = recordRows reply.Refused (bitsOf (set first)) fields r in
+    zone-answer local zone (timeRow reply.Refused time rows) (time-answer time rows (record-answer (bitsOf (set first)) fields r (a-time _ (from-time-value (set first) local (records zone) _ fields))))
 
 pub build-answer : (local : Bool) (zone fields : List ℕ) → IsAnswer (buildOutcome local zone fields)
 unfolding buildOutcome
@@ -167,9 +145,15 @@ build-answer local zone fields =
     zone-answer local zone (recordRows reply.Refused 7 fields r) (record-answer 7 fields r (a-time _ (from-time-value build local (records zone) nan fields)))
 
 -- ---- "the public UTC calls take none": what is handed over for a zone list does not matter
-pub set-utc : (call : Call) (zone : List ℕ) (time : ℕ) (fields : List ℕ) → setOutcome call false zone time fields ≡ setOutcome call false [] time fields
-unfolding setOutcome
-set-utc call zone time fields = rw (utc-no-list call (records zone) (records []) (timeValueOf time) fields)
+same-start : (one other : List Record) (v : TimeValue) → startOf false one v ≡ startOf false other v
+unfolding startOf
+same-start one other (given.Time t) = refl
+same-start one other given.Nan = refl
+same-start one other given.Refused = refl
+
+pub set-utc : (first : Part) (zone : List ℕ) (time : ℕ) (fields : List ℕ) → setOutcome first false zone time fields ≡ setOutcome first false [] time fields
+unfolding setOutcome valueFrom
+set-utc first zone time fields = rw (same-start (records zone) (records []) (timeValueOf time))
 
 pub build-utc : (zone fields : List ℕ) → buildOutcome false zone fields ≡ buildOutcome false [] fields
 unfolding buildOutcome valueFrom

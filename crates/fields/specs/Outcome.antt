@@ -8,34 +8,27 @@ use Rattle.answer.specs.declared.Refusal.{Refusal}
 use Rattle.answer.specs.declared.Refusal.the-variants as fault
 use Rattle.answer.specs.declared.Reply.{Reply}
 use Rattle.answer.specs.declared.Reply.the-variants.{Time, Refused}
-use Rattle.calendar.specs.Calendar.{num}
 use Rattle.zone.specs.Zone.{Record, accepts, records}
 use Rattle.timevalue.specs.declared.TimeValue.{TimeValue}
 use Rattle.timevalue.specs.declared.TimeValue.the-variants as given
 use Rattle.timevalue.specs.TimeValue.{timeValueOf}
 use Rattle.field_record.specs.FieldRecord.{hasLength, hasOtherBit}
-use Rattle.new_date.specs.Calls.{Call, build, setMilliseconds, setSeconds, setMinutes, setHours, setDate, setMonth, setFullYear, bitsOf, shiftIn, valueFrom}
+use Rattle.new_date.specs.declared.Part.{Part}
+use Rattle.new_date.specs.Calls.{build, set, bitsOf, shiftIn, valueFrom}
 
 -- "this number exactly when its fault is the first met"
 abbrev pub refuse : {A : Type 0} → (Refusal → A) → Bool → Refusal → A → A
 refuse refused met number rest = cond met (refused number) rest
 
--- "Every setter but `set_full_year` gives NaN for NaN; that one starts from 0, with no local shift."
-unfoldable pub valueOfNan : Call → Bool → List Record → List ℕ → Float
-valueOfNan setFullYear local list fields = valueFrom setFullYear local list (num 0) fields
-valueOfNan build local list fields = nan
-valueOfNan setMilliseconds local list fields = nan
-valueOfNan setSeconds local list fields = nan
-valueOfNan setMinutes local list fields = nan
-valueOfNan setHours local list fields = nan
-valueOfNan setDate local list fields = nan
-valueOfNan setMonth local list fields = nan
+-- Where a setter starts. "Every setter but `set_full_year` gives NaN for NaN": its own operations do.
+unfoldable pub startOf : Bool → List Record → TimeValue → Float
+startOf local list (given.Time t) = shiftIn local list t
+startOf local list given.Nan = nan
+startOf local list given.Refused = nan
 
 -- what a setter makes of a time value
-abbrev pub valueOf : Call → Bool → List Record → TimeValue → List ℕ → Float
-valueOf call local list (given.Time t) fields = valueFrom call local list (shiftIn local list t) fields
-valueOf call local list given.Nan fields = valueOfNan call local list fields
-valueOf call local list given.Refused fields = nan
+abbrev pub valueOf : Part → Bool → List Record → TimeValue → List ℕ → Float
+valueOf first local list v fields = valueFrom (set first) local list (startOf local list v) fields
 
 abbrev pub isRefused : TimeValue → Bool
 isRefused (given.Time t) = false
@@ -62,6 +55,6 @@ timeReply x = Time (toBits binary64 x)
 unfoldable pub buildOutcome : Bool → List ℕ → List ℕ → Reply
 buildOutcome local zone fields = zoneRow Refused local zone (recordRows Refused (bitsOf build) fields (timeReply (valueFrom build local (records zone) nan fields)))
 
-unfoldable pub setOutcome : Call → Bool → List ℕ → ℕ → List ℕ → Reply
-setOutcome call local zone time fields =
-    zoneRow Refused local zone (timeRow Refused time (recordRows Refused (bitsOf call) fields (timeReply (valueOf call local (records zone) (timeValueOf time) fields))))
+unfoldable pub setOutcome : Part → Bool → List ℕ → ℕ → List ℕ → Reply
+setOutcome first local zone time fields =
+    zoneRow Refused local zone (timeRow Refused time (recordRows Refused (bitsOf (set first)) fields (timeReply (valueOf first local (records zone) (timeValueOf time) fields))))

@@ -20,10 +20,10 @@ use Rattle.reader.specs.Outcome.{answerAt, readOutcome}
 use Rattle.writer.specs.Outcome.{written}
 use Rattle.writer.specs.Writer.{isoOutcome, utcOutcome, localOutcome}
 use Rattle.rewrite.specs.Rewrite.{rewriteOutcome}
-use Rattle.new_date.specs.Calls.{absent, newDate, valueFrom}
-use Rattle.fields.specs.Outcome.{valueOfNan, setOutcome}
+use Rattle.new_date.specs.Calls.{orZero, absent, newDate, newDateOf, valueFrom}
+use Rattle.fields.specs.Outcome.{startOf, setOutcome}
 use Rattle.marked.specs.Table.{rows, right, allRight}
 
 pub marked-rows : T (allRight rows)
-unfolding allRight right ones floorZ span climb size odd units round neg sum add sub mul div rem lt eq le ne ofInt toUnsigned toSigned isNan ofFields ofBits toBits DaysInYear DayFromYear YearFromTime monthOf dateOf daysBefore MakeDay isoYear dayName monthName paddedYear yearSign offsetSign withSign isNegative truncF floorF absF copysignF remEuclidF toIntegerOrInfinity truncZ dayF timeWithinDayF daysInYearF dayFromYearF timeFromYearF wrap32 yearEstimateF yearFromTimeF dayWithinYearF inLeapYearF monthFromTimeF dateFromTimeF yearOfMonth monthOfYear monthStartF dayOfMonthF makeDayF makeDateF timeClipF littleEndian twosComplement recordAt records isZoneList accepts decides offsetAt askedSecond offsetOfInstant offsetOfLocal offsetOfSuffix localTime utcTime askedSecondF offsetSecondsF localTimeF utcF isWholeWithin isTime timeValueOf hasLength hasOtherBit placeOf fieldAt fieldOr after give choose byte digitsAfter within signedYear readYear readDay readDate readDecimals readSecond readTime readOffsetMinute readOffset readZone ending timePart rest read instantOf answerAt readOutcome written isoOutcome utcOutcome localOutcome rewriteOutcome absent newDate valueFrom valueOfNan setOutcome
+unfolding allRight right ones floorZ span climb size odd units round neg sum add sub mul div rem lt eq le ne ofInt toUnsigned toSigned isNan ofFields ofBits toBits DaysInYear DayFromYear YearFromTime monthOf dateOf daysBefore MakeDay isoYear dayName monthName paddedYear yearSign offsetSign withSign isNegative truncF floorF absF copysignF remEuclidF toIntegerOrInfinity truncZ dayF timeWithinDayF daysInYearF dayFromYearF timeFromYearF wrap32 yearEstimateF yearFromTimeF dayWithinYearF inLeapYearF monthFromTimeF dateFromTimeF yearOfMonth monthOfYear monthStartF dayOfMonthF makeDayF makeDateF timeClipF littleEndian twosComplement recordAt records isZoneList accepts decides offsetAt askedSecond offsetOfInstant offsetOfLocal offsetOfSuffix localTime utcTime askedSecondF offsetSecondsF localTimeF utcF isWholeWithin isTime timeValueOf hasLength hasOtherBit placeOf fieldAt fieldOr after give choose byte digitsAfter within signedYear readYear readDay readDate readDecimals readSecond readTime readOffsetMinute readOffset readZone ending timePart rest read instantOf answerAt readOutcome written isoOutcome utcOutcome localOutcome rewriteOutcome orZero absent newDate newDateOf valueFrom startOf setOutcome
 marked-rows = tt

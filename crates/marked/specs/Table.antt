@@ -15,7 +15,8 @@ use Rattle.reader.specs.Outcome.{readOutcome}
 use Rattle.writer.specs.Outcome.{Outcome}
 use Rattle.writer.specs.Writer.{isoOutcome, utcOutcome, localOutcome}
 use Rattle.rewrite.specs.Rewrite.{rewriteOutcome}
-use Rattle.new_date.specs.Calls.{Call, setMonth, setFullYear}
+use Rattle.new_date.specs.declared.Part.{Part}
+use Rattle.new_date.specs.declared.Part.the-variants.{Month, FullYear}
 use Rattle.fields.specs.Outcome.{setOutcome}
 
 -- ---- what is lent
@@ -47,7 +48,7 @@ pub data Row : Type 0 where
   isoOf utcOf : ℤ → String → Row
   localOf : List ℕ → ℤ → String → Row
   -- a setter, UTC and local, on the bits of a time value and a field record
-  set : Call → ℕ → List ℕ → ℤ → Row
+  set : Part → ℕ → List ℕ → ℤ → Row
 
 abbrev pub rows : List Row
 rows =
@@ -64,8 +65,8 @@ rows =
     ∷ refused "-271821-04-19" 9
     ∷ isoOf (negℤ (pos 62167219200001)) "-000001-12-31T23:59:59.999Z"
     ∷ utcOf (negℤ (pos 62167219200001)) "Fri, 31 Dec -0001 23:59:59 GMT"
-    ∷ set setMonth (timeBits (pos 1706659200000)) recordOf1 (pos 1709337600000)
-    ∷ set setFullYear nanValue recordOf2024 (pos 1704067200000)
+    ∷ set Month (timeBits (pos 1706659200000)) recordOf1 (pos 1709337600000)
+    ∷ set FullYear nanValue recordOf2024 (pos 1704067200000)
     ∷ localOf twoOffsets (pos 0) "Thu Jan 01 1970 02:00:00 GMT+0100"
     ∷ []
 
@@ -100,8 +101,8 @@ right (reads text t written) = sameAnswer (answerOf (readOutcome utcList (ascii 
 right (isoOf t text) = writes (isoOutcome (timeBits t) lent) t text
 right (utcOf t text) = writes (utcOutcome (timeBits t) lent) t text
 right (localOf zone t text) = writes (localOutcome zone (timeBits t) lent) t text
-right (set call time fields t) =
-    sameAnswer (answerOf (setOutcome call false [] time fields)) (success t 0) && sameAnswer (answerOf (setOutcome call true utcList time fields)) (success t 0)
+right (set first time fields t) =
+    sameAnswer (answerOf (setOutcome first false [] time fields)) (success t 0) && sameAnswer (answerOf (setOutcome first true utcList time fields)) (success t 0)
 
 unfoldable pub allRight : List Row → Bool
 allRight [] = true

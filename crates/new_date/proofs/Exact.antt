@@ -10,7 +10,7 @@ use lib.IntN.{ℤ, pos, negsuc, natAbs}
 use lib.Signed.{_≤ℤ_}
 use lib.ListN.{length, getD}
 use lib.Ieee.{Float, nan, binary64, fits, ofInt, add, le, isNan}
-use lib.Ieee.Bits.{ofBits-fits}
+use lib.Ieee.Bits.{is-false, ofBits-fits}
 use lib.Ieee.Fits.{cond-fits, nan-fits, add-fits}
 use Rattle.integers.specs.Whole.{floorDiv}
 use Rattle.ecma262.specs.Date.{Day, TimeWithinDay, YearFromTime, MonthFromTime, DateFromTime, HourFromTime, MinFromTime, SecFromTime, msFromTime, MakeTime, MakeDay, MakeDate}
@@ -20,7 +20,8 @@ use Rattle.ecma262.proofs.Range.{year-range, make-day-range, make-time-range}
 use Rattle.ecma262.proofs.Fields.{month-range, date-small, date-natural}
 use Rattle.float.specs.Whole.{IsWhole, truncZ}
 use Rattle.float.specs.Rounding.{toIntegerOrInfinity}
-use Rattle.float.proofs.Rounding.{integer-fits}
+use Rattle.float.proofs.Special.{finite-number}
+use Rattle.float.proofs.Rounding.{integer-fits, whole-finite}
 use Rattle.calendar.specs.Calendar.{num, dayF, timeWithinDayF}
 use Rattle.calendar.proofs.Whole.{shown-small, day-whole, time-within-day-whole, year-from-time-whole, month-from-time-whole, date-from-time-whole, hour-from-time-whole, min-from-time-whole, sec-from-time-whole, ms-from-time-whole}
 use Rattle.make.specs.Make.{makeTimeF, makeDayF, makeDateF, makeFullYearF, fullYear, IsField, timeValue}
@@ -30,7 +31,8 @@ use Rattle.make.proofs.Clip.{clip-exact}
 use Rattle.zone.specs.Zone.{Record, IsZoneList}
 use Rattle.local.proofs.Whole.{utc-whole}
 use Rattle.field_record.specs.FieldRecord.{stands, fieldAt, fieldOr}
-use Rattle.new_date.specs.Calls.{Call, build, setMilliseconds, setSeconds, setMinutes, setHours, setDate, setMonth, setFullYear, bitsOf, yearNow, monthNow, dateNow, hourNow, minuteNow, secondNow, msNow, absent, argument, newDate, valueFrom}
+use Rattle.new_date.specs.Calls.{Call, build, set, bitsOf, present, orZero, absent, argument, newDate, newDateOf, valueFrom}
+use Rattle.new_date.specs.declared.Part.the-variants.{Milliseconds, Seconds, Minutes, Hours, Date, Month, FullYear}
 use Rattle.new_date.specs.Standard.{absentZ, argumentZ, newDateZ, valueFromZ, Finite, Bounded, Exact}
 
 -- ---- the elements of two lists, one by one
@@ -69,29 +71,34 @@ dated {d = d} {v = t} u v h k = record { whole = make-date-exact u v h k; small 
 
 module _ {t : Float} {z : ℤ} (w : IsWhole t z) (h : Shown z) where
   -- ---- the present fields
-  year-field : IsField (yearNow t) (YearFromTime z)
+  year-field : IsField (present FullYear t) (YearFromTime z)
   year-field = subst (λ (y : ℤ). IsField (ofInt binary64 y) (YearFromTime z)) (sym (year-from-time-whole w h)) (field-int (YearFromTime z) (year-small (YearFromTime z) (year-range z h)))
     where
       year-small : (y : ℤ) → (negsuc 271820 ≤ℤ y) × (y ≤ℤ pos 275760) → natAbs y ≤ 2 ^ 53
       year-small y r = abs-out y (omega (ints, r))
 
-  month-field : IsField (monthNow t) (pos (MonthFromTime z))
+  month-field : IsField (present Month t) (pos (MonthFromTime z))
   month-field = number _ _ (month-from-time-whole w h) (omega (arith, month-range z))
 
-  date-field : IsField (dateNow t) (DateFromTime z)
-  date-field = subst (IsField (dateNow t)) (date-natural z) (number _ _ (date-from-time-whole w h) (omega (arith, date-small z)))
+  date-field : IsField (present Date t) (DateFromTime z)
+  date-field = subst (IsField (present Date t)) (date-natural z) (number _ _ (date-from-time-whole w h) (omega (arith, date-small z)))
 
-  hour-field : IsField (hourNow t) (pos (HourFromTime z))
+  hour-field : IsField (present Hours t) (pos (HourFromTime z))
   hour-field = number _ _ (hour-from-time-whole w h) (omega (arith, mod-small (floorDiv z 3600000) 23))
 
-  minute-field : IsField (minuteNow t) (pos (MinFromTime z))
+  minute-field : IsField (present Minutes t) (pos (MinFromTime z))
   minute-field = number _ _ (min-from-time-whole w h) (omega (arith, mod-small (floorDiv z 60000) 59))
 
-  second-field : IsField (secondNow t) (pos (SecFromTime z))
+  second-field : IsField (present Seconds t) (pos (SecFromTime z))
   second-field = number _ _ (sec-from-time-whole w h) (omega (arith, mod-small (floorDiv z 1000) 59))
 
-  ms-field : IsField (msNow t) (pos (msFromTime z))
+  ms-field : IsField (present Milliseconds t) (pos (msFromTime z))
   ms-field = number _ _ (ms-from-time-whole w h) (omega (arith, mod-small z 999))
+
+  -- a whole time is no NaN
+  whole-start : orZero t ≡ t
+  unfolding orZero
+  whole-start = rw (is-false (isNan t) (finite-number t (whole-finite w)))
 
   -- ---- the arguments
   zero-field : IsField (num 0) (pos 0)
@@ -102,14 +109,15 @@ module _ {t : Float} {z : ℤ} (w : IsWhole t z) (h : Shown z) where
   absent-field build i k =
       pair-at (num 0 ∷ num 1 ∷ num 0 ∷ num 0 ∷ num 0 ∷ num 0 ∷ []) (pos 0 ∷ pos 1 ∷ pos 0 ∷ pos 0 ∷ pos 0 ∷ pos 0 ∷ [])
       (zero-field, (field-int (pos 1) (lit≤ tt), (zero-field, (zero-field, (zero-field, (zero-field, tt)))))) i (omega arith)
-  absent-field setMilliseconds i k = absurd (omega arith)
-  absent-field setSeconds i k = pair-at (msNow t ∷ []) (pos (msFromTime z) ∷ []) (ms-field, tt) i (omega arith)
-  absent-field setMinutes i k = pair-at (secondNow t ∷ msNow t ∷ []) (pos (SecFromTime z) ∷ pos (msFromTime z) ∷ []) (second-field, (ms-field, tt)) i (omega arith)
-  absent-field setHours i k =
-      pair-at (minuteNow t ∷ secondNow t ∷ msNow t ∷ []) (pos (MinFromTime z) ∷ pos (SecFromTime z) ∷ pos (msFromTime z) ∷ []) (minute-field, (second-field, (ms-field, tt))) i (omega arith)
-  absent-field setDate i k = absurd (omega arith)
-  absent-field setMonth i k = pair-at (dateNow t ∷ []) (DateFromTime z ∷ []) (date-field, tt) i (omega arith)
-  absent-field setFullYear i k = pair-at (monthNow t ∷ dateNow t ∷ []) (pos (MonthFromTime z) ∷ DateFromTime z ∷ []) (month-field, (date-field, tt)) i (omega arith)
+  absent-field (set Milliseconds) i k = absurd (omega arith)
+  absent-field (set Seconds) i k = pair-at (present Milliseconds t ∷ []) (pos (msFromTime z) ∷ []) (ms-field, tt) i (omega arith)
+  absent-field (set Minutes) i k = pair-at (present Seconds t ∷ present Milliseconds t ∷ []) (pos (SecFromTime z) ∷ pos (msFromTime z) ∷ []) (second-field, (ms-field, tt)) i (omega arith)
+  absent-field (set Hours) i k =
+      pair-at (present Minutes t ∷ present Seconds t ∷ present Milliseconds t ∷ []) (pos (MinFromTime z) ∷ pos (SecFromTime z) ∷ pos (msFromTime z) ∷ []) (minute-field, (second-field, (ms-field, tt))) i (omega arith)
+  absent-field (set Date) i k = absurd (omega arith)
+  absent-field (set Month) i k = pair-at (present Date t ∷ []) (DateFromTime z ∷ []) (date-field, tt) i (omega arith)
+  absent-field (set FullYear) i k =
+      pair-at (present Month (orZero t) ∷ present Date (orZero t) ∷ []) (pos (MonthFromTime z) ∷ DateFromTime z ∷ []) (rw whole-start month-field, (rw whole-start date-field, tt)) i (omega arith)
 
   argument-field : (call : Call) (fields : List ℕ) → Finite call fields → (i : ℕ) → i < bitsOf call → IsField (argument call t fields i) (argumentZ call z fields i)
   unfolding fieldOr
@@ -140,18 +148,18 @@ module _ {t : Float} {z : ℤ} (w : IsWhole t z) (h : Shown z) where
       (make-day-exact (field-whole (full-year-fits (a 0)) (make-full-year-exact (f 0 (lit< tt)))) (f 1 (lit< tt)) (f 2 (lit< tt)) (e .0))
       (make-time-exact (f 3 (lit< tt)) (f 4 (lit< tt)) (f 5 (lit< tt)) (f 6 (lit< tt)) (e .1))
       (make-day-range _ _ _ (e .0)) (make-time-range _ _ _ _ (e .1))
-  new-date setMilliseconds a b f e = on-clock hour-field minute-field second-field (f 0 (lit< tt)) e
-  new-date setSeconds a b f e = on-clock hour-field minute-field (f 0 (lit< tt)) (f 1 (lit< tt)) e
-  new-date setMinutes a b f e = on-clock hour-field (f 0 (lit< tt)) (f 1 (lit< tt)) (f 2 (lit< tt)) e
-  new-date setHours a b f e = on-clock (f 0 (lit< tt)) (f 1 (lit< tt)) (f 2 (lit< tt)) (f 3 (lit< tt)) e
-  new-date setDate a b f e = on-day year-field month-field (f 0 (lit< tt)) e
-  new-date setMonth a b f e = on-day year-field (f 0 (lit< tt)) (f 1 (lit< tt)) e
-  new-date setFullYear a b f e = on-day (f 0 (lit< tt)) (f 1 (lit< tt)) (f 2 (lit< tt)) e
+  new-date (set Milliseconds) a b f e = on-clock hour-field minute-field second-field (f 0 (lit< tt)) e
+  new-date (set Seconds) a b f e = on-clock hour-field minute-field (f 0 (lit< tt)) (f 1 (lit< tt)) e
+  new-date (set Minutes) a b f e = on-clock hour-field (f 0 (lit< tt)) (f 1 (lit< tt)) (f 2 (lit< tt)) e
+  new-date (set Hours) a b f e = on-clock (f 0 (lit< tt)) (f 1 (lit< tt)) (f 2 (lit< tt)) (f 3 (lit< tt)) e
+  new-date (set Date) a b f e = on-day year-field month-field (f 0 (lit< tt)) e
+  new-date (set Month) a b f e = on-day year-field (f 0 (lit< tt)) (f 1 (lit< tt)) e
+  new-date (set FullYear) a b f e = rw whole-start (on-day (f 0 (lit< tt)) (f 1 (lit< tt)) (f 2 (lit< tt)) e)
 
   -- THE LAW: the value is that of the standard's steps
   pub value-exact : (call : Call) (local : Bool) (list : List Record) → (local ≡ true → IsZoneList list) → (fields : List ℕ) → Exact call z fields
       → valueFrom call local list t fields ≡ timeValue (valueFromZ call local list z fields)
-  unfolding valueFrom valueFromZ
+  unfolding valueFrom newDateOf valueFromZ
   value-exact call local list l fields e = go local l
     where
       d : Dated (newDate call t (argument call t fields)) (newDateZ call z (argumentZ call z fields))

@@ -18,7 +18,9 @@ use Rattle.zone.specs.Zone.{Record}
 use Rattle.local.specs.Local.{shiftF, utcF}
 use Rattle.local.proofs.Tests.{utc-not-finite}
 use Rattle.field_record.specs.FieldRecord.{stands, fieldAt, fieldOr}
-use Rattle.new_date.specs.Calls.{Call, build, setMilliseconds, setSeconds, setMinutes, setHours, setDate, setMonth, setFullYear, bitsOf, yearNow, monthNow, hourNow, minuteNow, secondNow, shiftOut, absent, argument, newDate, valueFrom}
+use Rattle.new_date.specs.Calls.{Call, build, set, bitsOf, present, orZero, shiftOut, absent, argument, newDate, newDateOf, valueFrom}
+use Rattle.new_date.specs.declared.Part.{Part}
+use Rattle.new_date.specs.declared.Part.the-variants.{Milliseconds, Seconds, Minutes, Hours, Date, Month, FullYear}
 
 -- ---- a time value
 make-date-fits : (d t : Float) → T (fits binary64 (makeDateF d t))
@@ -31,13 +33,13 @@ make-date-fits d t =
 new-date-fits : (call : Call) (t : Float) (a : ℕ → Float) → T (fits binary64 (newDate call t a))
 unfolding newDate
 new-date-fits build t a = make-date-fits _ _
-new-date-fits setMilliseconds t a = make-date-fits _ _
-new-date-fits setSeconds t a = make-date-fits _ _
-new-date-fits setMinutes t a = make-date-fits _ _
-new-date-fits setHours t a = make-date-fits _ _
-new-date-fits setDate t a = make-date-fits _ _
-new-date-fits setMonth t a = make-date-fits _ _
-new-date-fits setFullYear t a = make-date-fits _ _
+new-date-fits (set Milliseconds) t a = make-date-fits _ _
+new-date-fits (set Seconds) t a = make-date-fits _ _
+new-date-fits (set Minutes) t a = make-date-fits _ _
+new-date-fits (set Hours) t a = make-date-fits _ _
+new-date-fits (set Date) t a = make-date-fits _ _
+new-date-fits (set Month) t a = make-date-fits _ _
+new-date-fits (set FullYear) t a = make-date-fits _ _
 
 out-fits : (local : Bool) (list : List Record) (x : Float) → T (fits binary64 x) → T (fits binary64 (shiftOut local list x))
 unfolding utcF
@@ -45,7 +47,7 @@ out-fits false list x f = f
 out-fits true list x f = cond-fits binary64 (finite x) (sub binary64 x (shiftF list x)) nan (sub-fits binary64 x (shiftF list x)) (nan-fits binary64)
 
 pub from-time-value : (call : Call) (local : Bool) (list : List Record) (t : Float) (fields : List ℕ) → IsTimeValue (valueFrom call local list t fields)
-unfolding valueFrom
+unfolding valueFrom newDateOf
 from-time-value call local list t fields = clip-time-value _ (out-fits local list _ (new-date-fits call t (argument call t fields)))
 
 -- ---- an argument that is not finite. Present fields before the arguments: p ▹ a is p at 0, and a from 1 on
@@ -86,13 +88,13 @@ new-date-nan build t a zero h e = of-day _ (day-nan (makeFullYearF (a 0) ▹ (λ
 new-date-nan build t a (suc zero) h e = of-day _ (day-nan (makeFullYearF (a 0) ▹ (λ i. a (suc i))) 1 (omega arith) e)
 new-date-nan build t a (suc (suc zero)) h e = of-day _ (day-nan (makeFullYearF (a 0) ▹ (λ i. a (suc i))) 2 (omega arith) e)
 new-date-nan build t a (suc (suc (suc i))) h e = of-time _ (time-nan (λ i. a (suc (suc (suc i)))) i (omega arith) e)
-new-date-nan setMilliseconds t a i h e = of-time _ (time-nan (hourNow t ▹ minuteNow t ▹ secondNow t ▹ a) (suc (suc (suc i))) (omega arith) e)
-new-date-nan setSeconds t a i h e = of-time _ (time-nan (hourNow t ▹ minuteNow t ▹ a) (suc (suc i)) (omega arith) e)
-new-date-nan setMinutes t a i h e = of-time _ (time-nan (hourNow t ▹ a) (suc i) (omega arith) e)
-new-date-nan setHours t a i h e = of-time _ (time-nan a i h e)
-new-date-nan setDate t a i h e = of-day _ (day-nan (yearNow t ▹ monthNow t ▹ a) (suc (suc i)) (omega arith) e)
-new-date-nan setMonth t a i h e = of-day _ (day-nan (yearNow t ▹ a) (suc i) (omega arith) e)
-new-date-nan setFullYear t a i h e = of-day _ (day-nan a i h e)
+new-date-nan (set Milliseconds) t a i h e = of-time _ (time-nan (present Hours t ▹ present Minutes t ▹ present Seconds t ▹ a) (suc (suc (suc i))) (omega arith) e)
+new-date-nan (set Seconds) t a i h e = of-time _ (time-nan (present Hours t ▹ present Minutes t ▹ a) (suc (suc i)) (omega arith) e)
+new-date-nan (set Minutes) t a i h e = of-time _ (time-nan (present Hours t ▹ a) (suc i) (omega arith) e)
+new-date-nan (set Hours) t a i h e = of-time _ (time-nan a i h e)
+new-date-nan (set Date) t a i h e = of-day _ (day-nan (present FullYear t ▹ present Month t ▹ a) (suc (suc i)) (omega arith) e)
+new-date-nan (set Month) t a i h e = of-day _ (day-nan (present FullYear t ▹ a) (suc i) (omega arith) e)
+new-date-nan (set FullYear) t a i h e = of-day _ (day-nan a i h e)
 
 clip-nan : timeClipF nan ≡ nan
 clip-nan = clip-not-finite nan refl
@@ -104,7 +106,7 @@ out-nan true list = utc-not-finite list nan refl
 -- a NaN or infinite field gives NaN
 pub argument-nan : (call : Call) (local : Bool) (list : List Record) (t : Float) (fields : List ℕ) (i : ℕ) → i < bitsOf call → finite (argument call t fields i) ≡ false
     → valueFrom call local list t fields ≡ nan
-unfolding valueFrom
+unfolding valueFrom newDateOf
 argument-nan call local list t fields i h e =
     ap (λ (x : Float). timeClipF (shiftOut local list x)) (new-date-nan call t (argument call t fields) i h e) ∙ ap timeClipF (out-nan local list) ∙ clip-nan
 
@@ -117,13 +119,13 @@ given-nan call local list t fields i h s e = argument-nan call local list t fiel
 first-absent : (call : Call) (t : Float) → (0 < bitsOf call) × (getD (absent call t) 0 nan ≡ nan)
 unfolding absent
 first-absent build t = (omega arith, refl)
-first-absent setMilliseconds t = (omega arith, refl)
-first-absent setSeconds t = (omega arith, refl)
-first-absent setMinutes t = (omega arith, refl)
-first-absent setHours t = (omega arith, refl)
-first-absent setDate t = (omega arith, refl)
-first-absent setMonth t = (omega arith, refl)
-first-absent setFullYear t = (omega arith, refl)
+first-absent (set Milliseconds) t = (omega arith, refl)
+first-absent (set Seconds) t = (omega arith, refl)
+first-absent (set Minutes) t = (omega arith, refl)
+first-absent (set Hours) t = (omega arith, refl)
+first-absent (set Date) t = (omega arith, refl)
+first-absent (set Month) t = (omega arith, refl)
+first-absent (set FullYear) t = (omega arith, refl)
 
 pub first-nan : (call : Call) (local : Bool) (list : List Record) (t : Float) (fields : List ℕ) → stands fields 0 ≡ false → valueFrom call local list t fields ≡ nan
 unfolding fieldOr
@@ -140,27 +142,21 @@ time-of-nan : finite (timeWithinDayF nan) ≡ false
 unfolding timeWithinDayF remEuclidF rem lt
 time-of-nan = refl
 
--- whether a call gives NaN of a NaN date
-abbrev pub keepsNan : Call → Bool
-keepsNan build = false
-keepsNan setMilliseconds = true
-keepsNan setSeconds = true
-keepsNan setMinutes = true
-keepsNan setHours = true
-keepsNan setDate = true
-keepsNan setMonth = true
-keepsNan setFullYear = false
-
-pub nan-date : (call : Call) (local : Bool) (list : List Record) (fields : List ℕ) → keepsNan call ≡ true → valueFrom call local list nan fields ≡ nan
-unfolding valueFrom newDate
-nan-date call local list fields k = ap (λ (x : Float). timeClipF (shiftOut local list x)) (go call k) ∙ ap timeClipF (out-nan local list) ∙ clip-nan
+pub nan-date : (first : Part) (local : Bool) (list : List Record) (fields : List ℕ) → (first ≡ FullYear → ⊥) → valueFrom (set first) local list nan fields ≡ nan
+unfolding valueFrom newDateOf newDate
+nan-date first local list fields other =
+    ap (λ (x : Float). timeClipF (shiftOut local list x)) (go first other (argument (set first) nan fields)) ∙ ap timeClipF (out-nan local list) ∙ clip-nan
   where
-    go : (c : Call) → keepsNan c ≡ true → newDate c nan (argument call nan fields) ≡ nan
-    go build k = absurd (false≢true k)
-    go setMilliseconds k = day-not-finite _ _ day-of-nan
-    go setSeconds k = day-not-finite _ _ day-of-nan
-    go setMinutes k = day-not-finite _ _ day-of-nan
-    go setHours k = day-not-finite _ _ day-of-nan
-    go setDate k = time-not-finite _ _ time-of-nan
-    go setMonth k = time-not-finite _ _ time-of-nan
-    go setFullYear k = absurd (false≢true k)
+    go : (p : Part) → (p ≡ FullYear → ⊥) → (a : ℕ → Float) → newDate (set p) nan a ≡ nan
+    go Milliseconds o a = day-not-finite _ _ day-of-nan
+    go Seconds o a = day-not-finite _ _ day-of-nan
+    go Minutes o a = day-not-finite _ _ day-of-nan
+    go Hours o a = day-not-finite _ _ day-of-nan
+    go Date o a = time-not-finite _ _ time-of-nan
+    go Month o a = time-not-finite _ _ time-of-nan
+    go FullYear o a = absurd (o refl)
+
+-- "that one starts from 0"
+pub year-of-nan : (local : Bool) (list : List Record) (fields : List ℕ) → valueFrom (set FullYear) local list nan fields ≡ valueFrom (set FullYear) local list (num 0) fields
+unfolding valueFrom newDateOf newDate absent orZero isNan ofInt
+year-of-nan local list fields = refl

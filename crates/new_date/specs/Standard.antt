@@ -16,18 +16,19 @@ use Rattle.zone.specs.Zone.{Record, Accepted}
 use Rattle.local.specs.Local.{localTime, utcTime}
 use Rattle.float.specs.Whole.{truncZ}
 use Rattle.field_record.specs.FieldRecord.{stands, hasLength, hasOtherBit, fieldAt}
-use Rattle.new_date.specs.Calls.{Call, build, setMilliseconds, setSeconds, setMinutes, setHours, setDate, setMonth, setFullYear, bitsOf}
+use Rattle.new_date.specs.Calls.{Call, build, set, bitsOf}
+use Rattle.new_date.specs.declared.Part.the-variants.{Milliseconds, Seconds, Minutes, Hours, Date, Month, FullYear}
 
 -- What an absent field stands for. Bit 0 has no such number: it stands for NaN, and the law below asks for it to be given.
 unfoldable pub absentZ : Call → ℤ → List ℤ
 absentZ build t = pos 0 ∷ pos 0 ∷ pos 1 ∷ pos 0 ∷ pos 0 ∷ pos 0 ∷ pos 0 ∷ []
-absentZ setMilliseconds t = pos 0 ∷ []
-absentZ setSeconds t = pos 0 ∷ pos (msFromTime t) ∷ []
-absentZ setMinutes t = pos 0 ∷ pos (SecFromTime t) ∷ pos (msFromTime t) ∷ []
-absentZ setHours t = pos 0 ∷ pos (MinFromTime t) ∷ pos (SecFromTime t) ∷ pos (msFromTime t) ∷ []
-absentZ setDate t = pos 0 ∷ []
-absentZ setMonth t = pos 0 ∷ DateFromTime t ∷ []
-absentZ setFullYear t = pos 0 ∷ pos (MonthFromTime t) ∷ DateFromTime t ∷ []
+absentZ (set Milliseconds) t = pos 0 ∷ []
+absentZ (set Seconds) t = pos 0 ∷ pos (msFromTime t) ∷ []
+absentZ (set Minutes) t = pos 0 ∷ pos (SecFromTime t) ∷ pos (msFromTime t) ∷ []
+absentZ (set Hours) t = pos 0 ∷ pos (MinFromTime t) ∷ pos (SecFromTime t) ∷ pos (msFromTime t) ∷ []
+absentZ (set Date) t = pos 0 ∷ []
+absentZ (set Month) t = pos 0 ∷ DateFromTime t ∷ []
+absentZ (set FullYear) t = pos 0 ∷ pos (MonthFromTime t) ∷ DateFromTime t ∷ []
 
 -- the call's argument of a bit: a given field without its fraction
 abbrev pub argumentZ : Call → ℤ → List ℕ → ℕ → ℤ
@@ -37,13 +38,13 @@ argumentZ call t fields bit = cond (stands fields bit) (truncZ (fieldAt fields b
 -- kin, MakeDate(Day(t), MakeTime(h, m, s, milli)); sec-date.prototype.setutcmonth and its kin, MakeDate(MakeDay(y, m, dt), TimeWithinDay(t))
 unfoldable pub newDateZ : Call → ℤ → (ℕ → ℤ) → ℤ
 newDateZ build t a = MakeDate (MakeDay (MakeFullYear (a 0)) (a 1) (a 2)) (MakeTime (a 3) (a 4) (a 5) (a 6))
-newDateZ setMilliseconds t a = MakeDate (Day t) (MakeTime (pos (HourFromTime t)) (pos (MinFromTime t)) (pos (SecFromTime t)) (a 0))
-newDateZ setSeconds t a = MakeDate (Day t) (MakeTime (pos (HourFromTime t)) (pos (MinFromTime t)) (a 0) (a 1))
-newDateZ setMinutes t a = MakeDate (Day t) (MakeTime (pos (HourFromTime t)) (a 0) (a 1) (a 2))
-newDateZ setHours t a = MakeDate (Day t) (MakeTime (a 0) (a 1) (a 2) (a 3))
-newDateZ setDate t a = MakeDate (MakeDay (YearFromTime t) (pos (MonthFromTime t)) (a 0)) (pos (TimeWithinDay t))
-newDateZ setMonth t a = MakeDate (MakeDay (YearFromTime t) (a 0) (a 1)) (pos (TimeWithinDay t))
-newDateZ setFullYear t a = MakeDate (MakeDay (a 0) (a 1) (a 2)) (pos (TimeWithinDay t))
+newDateZ (set Milliseconds) t a = MakeDate (Day t) (MakeTime (pos (HourFromTime t)) (pos (MinFromTime t)) (pos (SecFromTime t)) (a 0))
+newDateZ (set Seconds) t a = MakeDate (Day t) (MakeTime (pos (HourFromTime t)) (pos (MinFromTime t)) (a 0) (a 1))
+newDateZ (set Minutes) t a = MakeDate (Day t) (MakeTime (pos (HourFromTime t)) (a 0) (a 1) (a 2))
+newDateZ (set Hours) t a = MakeDate (Day t) (MakeTime (a 0) (a 1) (a 2) (a 3))
+newDateZ (set Date) t a = MakeDate (MakeDay (YearFromTime t) (pos (MonthFromTime t)) (a 0)) (pos (TimeWithinDay t))
+newDateZ (set Month) t a = MakeDate (MakeDay (YearFromTime t) (a 0) (a 1)) (pos (TimeWithinDay t))
+newDateZ (set FullYear) t a = MakeDate (MakeDay (a 0) (a 1) (a 2)) (pos (TimeWithinDay t))
 
 abbrev pub shiftInZ : Bool → List Record → ℤ → ℤ
 shiftInZ local list t = cond local (localTime list t) t
@@ -63,13 +64,13 @@ pub record Finite (call : Call) (fields : List ℕ) : Type 0 where
 -- and the call's arguments a within its bounds; the builder's year is bounded as MakeFullYear gives it
 abbrev pub Bounded : Call → ℤ → (ℕ → ℤ) → Type 0
 Bounded build t a = ExactDay (MakeFullYear (a 0)) (a 1) (a 2) × ExactTime (a 3) (a 4) (a 5) (a 6)
-Bounded setMilliseconds t a = ExactTime (pos (HourFromTime t)) (pos (MinFromTime t)) (pos (SecFromTime t)) (a 0)
-Bounded setSeconds t a = ExactTime (pos (HourFromTime t)) (pos (MinFromTime t)) (a 0) (a 1)
-Bounded setMinutes t a = ExactTime (pos (HourFromTime t)) (a 0) (a 1) (a 2)
-Bounded setHours t a = ExactTime (a 0) (a 1) (a 2) (a 3)
-Bounded setDate t a = ExactDay (YearFromTime t) (pos (MonthFromTime t)) (a 0)
-Bounded setMonth t a = ExactDay (YearFromTime t) (a 0) (a 1)
-Bounded setFullYear t a = ExactDay (a 0) (a 1) (a 2)
+Bounded (set Milliseconds) t a = ExactTime (pos (HourFromTime t)) (pos (MinFromTime t)) (pos (SecFromTime t)) (a 0)
+Bounded (set Seconds) t a = ExactTime (pos (HourFromTime t)) (pos (MinFromTime t)) (a 0) (a 1)
+Bounded (set Minutes) t a = ExactTime (pos (HourFromTime t)) (a 0) (a 1) (a 2)
+Bounded (set Hours) t a = ExactTime (a 0) (a 1) (a 2) (a 3)
+Bounded (set Date) t a = ExactDay (YearFromTime t) (pos (MonthFromTime t)) (a 0)
+Bounded (set Month) t a = ExactDay (YearFromTime t) (a 0) (a 1)
+Bounded (set FullYear) t a = ExactDay (a 0) (a 1) (a 2)
 
 pub record Exact (call : Call) (t : ℤ) (fields : List ℕ) : Type 0 where
   pub numbers : Finite call fields

@@ -2,165 +2,190 @@
 // time t, which is local where the call is, and the record of its arguments. Each contract is one line of specs/Calls.antt, for every f64 and every
 // record; that it is the standard's own step in the exact domain is in proofs/Exact.antt.
 ghost use mathlib.Core.Path.{_≡_};
-ghost use mathlib.Core.Bool.{true, cond};
+ghost use mathlib.Core.Bool.{true};
 ghost use lib.Ieee.{nan, binary64, toBits};
 ghost use Rattle.zone.specs.Zone.{records, Accepted};
 ghost use Rattle.field_record.specs.FieldRecord.{hasLength};
-ghost use Rattle.new_date.specs.Calls.{build, setMilliseconds, setSeconds, setMinutes, setHours, setDate, setMonth, setFullYear, monthNow, dateNow, minuteNow, secondNow, msNow, shiftOut, newDateOf, valueOut};
+ghost use Rattle.field_record.specs.Contracts.{IsPlace, FieldIs};
+ghost use Rattle.new_date.specs.Calls.{build, set, present, orZero, shiftOut, newDateOf, valueOut};
 use field_record::Field;
 
-// ---- an argument that may be absent: then it is asked of t, and else not
-
-// If min is not present, let m be MinFromTime(t).
-fn minute_or(m: Field, t: f64) -> f64
-    ensures { λ r. ⌜ r ≡ cond (m .given) (m .value) (minuteNow t) ⌝ }
-{
-    if m.given {
-        return m.value;
-    }
-    calendar::min_from_time(t) as f64
+// The parts of a date. A setter is named after the first that it sets.
+pub enum Part {
+    Milliseconds,
+    Seconds,
+    Minutes,
+    Hours,
+    Date,
+    Month,
+    FullYear,
 }
 
-// If sec is not present, let s be SecFromTime(t).
-fn second_or(s: Field, t: f64) -> f64
-    ensures { λ r. ⌜ r ≡ cond (s .given) (s .value) (secondNow t) ⌝ }
-{
-    if s.given {
-        return s.value;
-    }
-    calendar::sec_from_time(t) as f64
-}
+// ---- the arguments
 
-// If ms is not present, let milli be msFromTime(t).
-fn ms_or(milli: Field, t: f64) -> f64
-    ensures { λ r. ⌜ r ≡ cond (milli .given) (milli .value) (msNow t) ⌝ }
-{
-    if milli.given {
-        return milli.value;
-    }
-    calendar::ms_from_time(t) as f64
-}
-
-// If month is not present, let m be MonthFromTime(t).
-fn month_or(m: Field, t: f64) -> f64
-    ensures { λ r. ⌜ r ≡ cond (m .given) (m .value) (monthNow t) ⌝ }
-{
-    if m.given {
-        return m.value;
-    }
-    calendar::month_from_time(t) as f64
-}
-
-// If date is not present, let dt be DateFromTime(t).
-fn date_or(dt: Field, t: f64) -> f64
-    ensures { λ r. ⌜ r ≡ cond (dt .given) (dt .value) (dateNow t) ⌝ }
-{
-    if dt.given {
-        return dt.value;
-    }
-    calendar::date_from_time(t) as f64
-}
-
-// ---- the clock's setters: the first argument, where it is absent, is NaN
-
-pub fn milliseconds(t: f64, fields: &[u8]) -> f64
+// The first: where it is absent, it is NaN.
+fn first_of(fields: &[u8]) -> Field
     requires { ⌜ hasLength (now fields) ≡ true ⌝ }
-    ensures { λ r. ⌜ r ≡ newDateOf setMilliseconds t (now (fields .entry)) ⌝ }
+    ensures { λ r. ⌜ FieldIs (now (fields .entry)) 0 nan r ⌝ }
 {
-    let ms = field_record::field_or(fields, 0, 1, 0.0 / 0.0);
+    field_record::field_or(fields, 0, 1, 0.0 / 0.0)
+}
+
+// A present part of t.
+fn present(part: Part, t: f64) -> f64
+    ensures { λ r. ⌜ r ≡ present part t ⌝ }
+{
+    match part {
+        Part::Milliseconds => calendar::ms_from_time(t) as f64,
+        Part::Seconds => calendar::sec_from_time(t) as f64,
+        Part::Minutes => calendar::min_from_time(t) as f64,
+        Part::Hours => calendar::hour_from_time(t) as f64,
+        Part::Date => calendar::date_from_time(t) as f64,
+        Part::Month => calendar::month_from_time(t) as f64,
+        Part::FullYear => calendar::year_from_time(t) as f64,
+    }
+}
+
+// Another of a setter: where it is absent, it is asked of t, and else not.
+fn next_of(fields: &[u8], bit: u32, at: usize, part: Part, t: f64) -> Field
+    requires { ⌜ IsPlace (now fields) bit at ⌝ }
+    ensures { λ r. ⌜ FieldIs (now (fields .entry)) bit (present part t) r ⌝ }
+{
+    let f = field_record::field_or(fields, bit, at, 0.0 / 0.0);
+    if f.given {
+        return f;
+    }
+    Field {
+        given: false,
+        value: present(part, t),
+        next: f.next,
+    }
+}
+
+// ---- the clock's setters
+
+fn milliseconds(t: f64, fields: &[u8]) -> f64
+    requires { ⌜ hasLength (now fields) ≡ true ⌝ }
+    ensures { λ r. ⌜ r ≡ newDateOf (set Part.Milliseconds) t (now (fields .entry)) ⌝ }
+{
+    let ms = first_of(fields);
     // Let time be MakeTime(HourFromTime(t), MinFromTime(t), SecFromTime(t), ms).
     let time = make::make_time(
-        calendar::hour_from_time(t) as f64,
-        calendar::min_from_time(t) as f64,
-        calendar::sec_from_time(t) as f64,
+        present(Part::Hours, t),
+        present(Part::Minutes, t),
+        present(Part::Seconds, t),
         ms.value,
     );
     make::make_date(calendar::day(t), time)
 }
 
-pub fn seconds(t: f64, fields: &[u8]) -> f64
+fn seconds(t: f64, fields: &[u8]) -> f64
     requires { ⌜ hasLength (now fields) ≡ true ⌝ }
-    ensures { λ r. ⌜ r ≡ newDateOf setSeconds t (now (fields .entry)) ⌝ }
+    ensures { λ r. ⌜ r ≡ newDateOf (set Part.Seconds) t (now (fields .entry)) ⌝ }
 {
-    let s = field_record::field_or(fields, 0, 1, 0.0 / 0.0);
-    let milli = field_record::field_or(fields, 1, s.next, 0.0 / 0.0);
+    let s = first_of(fields);
+    let milli = next_of(fields, 1, s.next, Part::Milliseconds, t);
     // Let date be MakeDate(Day(t), MakeTime(HourFromTime(t), MinFromTime(t), s, milli)).
     let time = make::make_time(
-        calendar::hour_from_time(t) as f64,
-        calendar::min_from_time(t) as f64,
+        present(Part::Hours, t),
+        present(Part::Minutes, t),
         s.value,
-        ms_or(milli, t),
+        milli.value,
     );
     make::make_date(calendar::day(t), time)
 }
 
-pub fn minutes(t: f64, fields: &[u8]) -> f64
+fn minutes(t: f64, fields: &[u8]) -> f64
     requires { ⌜ hasLength (now fields) ≡ true ⌝ }
-    ensures { λ r. ⌜ r ≡ newDateOf setMinutes t (now (fields .entry)) ⌝ }
+    ensures { λ r. ⌜ r ≡ newDateOf (set Part.Minutes) t (now (fields .entry)) ⌝ }
 {
-    let m = field_record::field_or(fields, 0, 1, 0.0 / 0.0);
-    let s = field_record::field_or(fields, 1, m.next, 0.0 / 0.0);
-    let milli = field_record::field_or(fields, 2, s.next, 0.0 / 0.0);
+    let m = first_of(fields);
+    let s = next_of(fields, 1, m.next, Part::Seconds, t);
+    let milli = next_of(fields, 2, s.next, Part::Milliseconds, t);
     // Let date be MakeDate(Day(t), MakeTime(HourFromTime(t), m, s, milli)).
-    let time = make::make_time(
-        calendar::hour_from_time(t) as f64,
-        m.value,
-        second_or(s, t),
-        ms_or(milli, t),
-    );
+    let time = make::make_time(present(Part::Hours, t), m.value, s.value, milli.value);
     make::make_date(calendar::day(t), time)
 }
 
-pub fn hours(t: f64, fields: &[u8]) -> f64
+fn hours(t: f64, fields: &[u8]) -> f64
     requires { ⌜ hasLength (now fields) ≡ true ⌝ }
-    ensures { λ r. ⌜ r ≡ newDateOf setHours t (now (fields .entry)) ⌝ }
+    ensures { λ r. ⌜ r ≡ newDateOf (set Part.Hours) t (now (fields .entry)) ⌝ }
 {
-    let h = field_record::field_or(fields, 0, 1, 0.0 / 0.0);
-    let m = field_record::field_or(fields, 1, h.next, 0.0 / 0.0);
-    let s = field_record::field_or(fields, 2, m.next, 0.0 / 0.0);
-    let milli = field_record::field_or(fields, 3, s.next, 0.0 / 0.0);
+    let h = first_of(fields);
+    let m = next_of(fields, 1, h.next, Part::Minutes, t);
+    let s = next_of(fields, 2, m.next, Part::Seconds, t);
+    let milli = next_of(fields, 3, s.next, Part::Milliseconds, t);
     // Let date be MakeDate(Day(t), MakeTime(h, m, s, milli)).
-    let time = make::make_time(h.value, minute_or(m, t), second_or(s, t), ms_or(milli, t));
+    let time = make::make_time(h.value, m.value, s.value, milli.value);
     make::make_date(calendar::day(t), time)
 }
 
 // ---- the day's setters
 
-pub fn date(t: f64, fields: &[u8]) -> f64
+fn date(t: f64, fields: &[u8]) -> f64
     requires { ⌜ hasLength (now fields) ≡ true ⌝ }
-    ensures { λ r. ⌜ r ≡ newDateOf setDate t (now (fields .entry)) ⌝ }
+    ensures { λ r. ⌜ r ≡ newDateOf (set Part.Date) t (now (fields .entry)) ⌝ }
 {
-    let dt = field_record::field_or(fields, 0, 1, 0.0 / 0.0);
+    let dt = first_of(fields);
     // Let newDate be MakeDate(MakeDay(YearFromTime(t), MonthFromTime(t), dt), TimeWithinDay(t)).
     let day = make::make_day(
-        calendar::year_from_time(t) as f64,
-        calendar::month_from_time(t) as f64,
+        present(Part::FullYear, t),
+        present(Part::Month, t),
         dt.value,
     );
     make::make_date(day, calendar::time_within_day(t))
 }
 
-pub fn month(t: f64, fields: &[u8]) -> f64
+fn month(t: f64, fields: &[u8]) -> f64
     requires { ⌜ hasLength (now fields) ≡ true ⌝ }
-    ensures { λ r. ⌜ r ≡ newDateOf setMonth t (now (fields .entry)) ⌝ }
+    ensures { λ r. ⌜ r ≡ newDateOf (set Part.Month) t (now (fields .entry)) ⌝ }
 {
-    let m = field_record::field_or(fields, 0, 1, 0.0 / 0.0);
-    let dt = field_record::field_or(fields, 1, m.next, 0.0 / 0.0);
+    let m = first_of(fields);
+    let y = present(Part::FullYear, t);
+    let dt = next_of(fields, 1, m.next, Part::Date, t);
     // Let newDate be MakeDate(MakeDay(YearFromTime(t), m, dt), TimeWithinDay(t)).
-    let day = make::make_day(calendar::year_from_time(t) as f64, m.value, date_or(dt, t));
+    let day = make::make_day(y, m.value, dt.value);
     make::make_date(day, calendar::time_within_day(t))
 }
 
-pub fn full_year(t: f64, fields: &[u8]) -> f64
-    requires { ⌜ hasLength (now fields) ≡ true ⌝ }
-    ensures { λ r. ⌜ r ≡ newDateOf setFullYear t (now (fields .entry)) ⌝ }
+// If t is NaN, set t to +0.
+fn or_zero(t: f64) -> f64
+    ensures { λ r. ⌜ r ≡ orZero t ⌝ }
 {
-    let y = field_record::field_or(fields, 0, 1, 0.0 / 0.0);
-    let m = field_record::field_or(fields, 1, y.next, 0.0 / 0.0);
-    let dt = field_record::field_or(fields, 2, m.next, 0.0 / 0.0);
+    if float::is_nan(t) {
+        return 0.0;
+    }
+    t
+}
+
+fn full_year(date: f64, fields: &[u8]) -> f64
+    requires { ⌜ hasLength (now fields) ≡ true ⌝ }
+    ensures { λ r. ⌜ r ≡ newDateOf (set Part.FullYear) date (now (fields .entry)) ⌝ }
+{
+    let t = or_zero(date);
+    let y = first_of(fields);
+    let m = next_of(fields, 1, y.next, Part::Month, t);
+    let dt = next_of(fields, 2, m.next, Part::Date, t);
     // Let newDate be MakeDate(MakeDay(y, m, dt), TimeWithinDay(t)).
-    let day = make::make_day(y.value, month_or(m, t), date_or(dt, t));
+    let day = make::make_day(y.value, m.value, dt.value);
     make::make_date(day, calendar::time_within_day(t))
+}
+
+// ---- any setter
+
+pub fn set(first: Part, t: f64, fields: &[u8]) -> f64
+    requires { ⌜ hasLength (now fields) ≡ true ⌝ }
+    ensures { λ r. ⌜ r ≡ newDateOf (set first) t (now (fields .entry)) ⌝ }
+{
+    match first {
+        Part::Milliseconds => milliseconds(t, fields),
+        Part::Seconds => seconds(t, fields),
+        Part::Minutes => minutes(t, fields),
+        Part::Hours => hours(t, fields),
+        Part::Date => date(t, fields),
+        Part::Month => month(t, fields),
+        Part::FullYear => full_year(t, fields),
+    }
 }
 
 // ---- the builder
@@ -170,7 +195,7 @@ pub fn built(fields: &[u8]) -> f64
     requires { ⌜ hasLength (now fields) ≡ true ⌝ }
     ensures { λ r. ⌜ r ≡ newDateOf build nan (now (fields .entry)) ⌝ }
 {
-    let y = field_record::field_or(fields, 0, 1, 0.0 / 0.0);
+    let y = first_of(fields);
     let m = field_record::field_or(fields, 1, y.next, 0.0);
     let dt = field_record::field_or(fields, 2, m.next, 1.0);
     let h = field_record::field_or(fields, 3, dt.next, 0.0);

@@ -1,4 +1,4 @@
--- What the lookup's inner functions keep, for their contracts; no outcome cites it. Definitions only. Assumes nothing.
+-- What the lookup's inner functions keep, for their contracts, and a name for the laws; no outcome cites them. Definitions only. Assumes nothing.
 use mathlib.Core.Path.{_≡_}
 use mathlib.Core.List.{List}
 use mathlib.Core.Logic.{_⊎_}
@@ -14,3 +14,7 @@ pub record Narrowed (bytes : List ℕ) (t : ℤ) (low high : ℕ) : Type 0 where
   pub within : high ≤ length bytes / 12
   pub started : (low ≡ 0) ⊎ (secondOf (records bytes) low ≤ℤ t)
   pub after : (j : ℕ) → high ≤ j → j < length bytes / 12 → t <ℤ secondOf (records bytes) j
+
+-- n seconds are strictly rising
+abbrev pub Rising : (ℕ → ℤ) → ℕ → Type 0
+Rising s n = (i j : ℕ) → i < j → j < n → s i <ℤ s j

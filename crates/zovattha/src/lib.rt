@@ -1,11 +1,12 @@
 // The C functions of include/zovattha.h, and nothing else. A slice is a pointer and a length. None has a `requires`: any bits and any bytes
 // get an answer.
 use answer::Answer;
+use new_date::Part;
 ghost use mathlib.Core.Path.{_≡_};
 ghost use Rattle.answer.specs.Answer.{answerOf};
 ghost use mathlib.Core.Bool.{true, false};
 ghost use mathlib.Core.List.{[]};
-ghost use Rattle.new_date.specs.Calls.Call.{setMilliseconds, setSeconds, setMinutes, setHours, setDate, setMonth, setFullYear};
+ghost use Rattle.new_date.specs.declared.Part.the-variants.{Milliseconds, Seconds, Minutes, Hours, Date, Month, FullYear};
 ghost use Rattle.fields.specs.Outcome.{buildOutcome, setOutcome};
 ghost use Rattle.reader.specs.Outcome.{readOutcome};
 ghost use Rattle.rewrite.specs.Rewrite.{rewriteOutcome};
@@ -77,112 +78,112 @@ pub extern "C" fn zovattha_build_local(zone: &[u8], fields: &[u8]) -> Answer
 
 #[no_mangle]
 pub extern "C" fn zovattha_set_utc_milliseconds(time: u64, fields: &[u8]) -> Answer
-    ensures { λ r. ⌜ r ≡ answerOf (setOutcome setMilliseconds false [] time (now (fields .entry))) ⌝ }
+    ensures { λ r. ⌜ r ≡ answerOf (setOutcome Milliseconds false [] time (now (fields .entry))) ⌝ }
 {
-    let reply = fields::set_milliseconds(false, b"", time, fields);
+    let reply = fields::set(Part::Milliseconds, false, b"", time, fields);
     answer::answer_of(reply)
 }
 
 #[no_mangle]
 pub extern "C" fn zovattha_set_milliseconds(zone: &[u8], time: u64, fields: &[u8]) -> Answer
-    ensures { λ r. ⌜ r ≡ answerOf (setOutcome setMilliseconds true (now (zone .entry)) time (now (fields .entry))) ⌝ }
+    ensures { λ r. ⌜ r ≡ answerOf (setOutcome Milliseconds true (now (zone .entry)) time (now (fields .entry))) ⌝ }
 {
-    let reply = fields::set_milliseconds(true, zone, time, fields);
+    let reply = fields::set(Part::Milliseconds, true, zone, time, fields);
     answer::answer_of(reply)
 }
 
 #[no_mangle]
 pub extern "C" fn zovattha_set_utc_seconds(time: u64, fields: &[u8]) -> Answer
-    ensures { λ r. ⌜ r ≡ answerOf (setOutcome setSeconds false [] time (now (fields .entry))) ⌝ }
+    ensures { λ r. ⌜ r ≡ answerOf (setOutcome Seconds false [] time (now (fields .entry))) ⌝ }
 {
-    let reply = fields::set_seconds(false, b"", time, fields);
+    let reply = fields::set(Part::Seconds, false, b"", time, fields);
     answer::answer_of(reply)
 }
 
 #[no_mangle]
 pub extern "C" fn zovattha_set_seconds(zone: &[u8], time: u64, fields: &[u8]) -> Answer
-    ensures { λ r. ⌜ r ≡ answerOf (setOutcome setSeconds true (now (zone .entry)) time (now (fields .entry))) ⌝ }
+    ensures { λ r. ⌜ r ≡ answerOf (setOutcome Seconds true (now (zone .entry)) time (now (fields .entry))) ⌝ }
 {
-    let reply = fields::set_seconds(true, zone, time, fields);
+    let reply = fields::set(Part::Seconds, true, zone, time, fields);
     answer::answer_of(reply)
 }
 
 #[no_mangle]
 pub extern "C" fn zovattha_set_utc_minutes(time: u64, fields: &[u8]) -> Answer
-    ensures { λ r. ⌜ r ≡ answerOf (setOutcome setMinutes false [] time (now (fields .entry))) ⌝ }
+    ensures { λ r. ⌜ r ≡ answerOf (setOutcome Minutes false [] time (now (fields .entry))) ⌝ }
 {
-    let reply = fields::set_minutes(false, b"", time, fields);
+    let reply = fields::set(Part::Minutes, false, b"", time, fields);
     answer::answer_of(reply)
 }
 
 #[no_mangle]
 pub extern "C" fn zovattha_set_minutes(zone: &[u8], time: u64, fields: &[u8]) -> Answer
-    ensures { λ r. ⌜ r ≡ answerOf (setOutcome setMinutes true (now (zone .entry)) time (now (fields .entry))) ⌝ }
+    ensures { λ r. ⌜ r ≡ answerOf (setOutcome Minutes true (now (zone .entry)) time (now (fields .entry))) ⌝ }
 {
-    let reply = fields::set_minutes(true, zone, time, fields);
+    let reply = fields::set(Part::Minutes, true, zone, time, fields);
     answer::answer_of(reply)
 }
 
 #[no_mangle]
 pub extern "C" fn zovattha_set_utc_hours(time: u64, fields: &[u8]) -> Answer
-    ensures { λ r. ⌜ r ≡ answerOf (setOutcome setHours false [] time (now (fields .entry))) ⌝ }
+    ensures { λ r. ⌜ r ≡ answerOf (setOutcome Hours false [] time (now (fields .entry))) ⌝ }
 {
-    let reply = fields::set_hours(false, b"", time, fields);
+    let reply = fields::set(Part::Hours, false, b"", time, fields);
     answer::answer_of(reply)
 }
 
 #[no_mangle]
 pub extern "C" fn zovattha_set_hours(zone: &[u8], time: u64, fields: &[u8]) -> Answer
-    ensures { λ r. ⌜ r ≡ answerOf (setOutcome setHours true (now (zone .entry)) time (now (fields .entry))) ⌝ }
+    ensures { λ r. ⌜ r ≡ answerOf (setOutcome Hours true (now (zone .entry)) time (now (fields .entry))) ⌝ }
 {
-    let reply = fields::set_hours(true, zone, time, fields);
+    let reply = fields::set(Part::Hours, true, zone, time, fields);
     answer::answer_of(reply)
 }
 
 #[no_mangle]
 pub extern "C" fn zovattha_set_utc_date(time: u64, fields: &[u8]) -> Answer
-    ensures { λ r. ⌜ r ≡ answerOf (setOutcome setDate false [] time (now (fields .entry))) ⌝ }
+    ensures { λ r. ⌜ r ≡ answerOf (setOutcome Date false [] time (now (fields .entry))) ⌝ }
 {
-    let reply = fields::set_date(false, b"", time, fields);
+    let reply = fields::set(Part::Date, false, b"", time, fields);
     answer::answer_of(reply)
 }
 
 #[no_mangle]
 pub extern "C" fn zovattha_set_date(zone: &[u8], time: u64, fields: &[u8]) -> Answer
-    ensures { λ r. ⌜ r ≡ answerOf (setOutcome setDate true (now (zone .entry)) time (now (fields .entry))) ⌝ }
+    ensures { λ r. ⌜ r ≡ answerOf (setOutcome Date true (now (zone .entry)) time (now (fields .entry))) ⌝ }
 {
-    let reply = fields::set_date(true, zone, time, fields);
+    let reply = fields::set(Part::Date, true, zone, time, fields);
     answer::answer_of(reply)
 }
 
 #[no_mangle]
 pub extern "C" fn zovattha_set_utc_month(time: u64, fields: &[u8]) -> Answer
-    ensures { λ r. ⌜ r ≡ answerOf (setOutcome setMonth false [] time (now (fields .entry))) ⌝ }
+    ensures { λ r. ⌜ r ≡ answerOf (setOutcome Month false [] time (now (fields .entry))) ⌝ }
 {
-    let reply = fields::set_month(false, b"", time, fields);
+    let reply = fields::set(Part::Month, false, b"", time, fields);
     answer::answer_of(reply)
 }
 
 #[no_mangle]
 pub extern "C" fn zovattha_set_month(zone: &[u8], time: u64, fields: &[u8]) -> Answer
-    ensures { λ r. ⌜ r ≡ answerOf (setOutcome setMonth true (now (zone .entry)) time (now (fields .entry))) ⌝ }
+    ensures { λ r. ⌜ r ≡ answerOf (setOutcome Month true (now (zone .entry)) time (now (fields .entry))) ⌝ }
 {
-    let reply = fields::set_month(true, zone, time, fields);
+    let reply = fields::set(Part::Month, true, zone, time, fields);
     answer::answer_of(reply)
 }
 
 #[no_mangle]
 pub extern "C" fn zovattha_set_utc_full_year(time: u64, fields: &[u8]) -> Answer
-    ensures { λ r. ⌜ r ≡ answerOf (setOutcome setFullYear false [] time (now (fields .entry))) ⌝ }
+    ensures { λ r. ⌜ r ≡ answerOf (setOutcome FullYear false [] time (now (fields .entry))) ⌝ }
 {
-    let reply = fields::set_full_year(false, b"", time, fields);
+    let reply = fields::set(Part::FullYear, false, b"", time, fields);
     answer::answer_of(reply)
 }
 
 #[no_mangle]
 pub extern "C" fn zovattha_set_full_year(zone: &[u8], time: u64, fields: &[u8]) -> Answer
-    ensures { λ r. ⌜ r ≡ answerOf (setOutcome setFullYear true (now (zone .entry)) time (now (fields .entry))) ⌝ }
+    ensures { λ r. ⌜ r ≡ answerOf (setOutcome FullYear true (now (zone .entry)) time (now (fields .entry))) ⌝ }
 {
-    let reply = fields::set_full_year(true, zone, time, fields);
+    let reply = fields::set(Part::FullYear, true, zone, time, fields);
     answer::answer_of(reply)
 }

@@ -4,14 +4,14 @@ use Rattle.zovattha.proofs.Calls.{replied}
 use Rattle.zovattha.proofs.zovattha_set_date.Statement.{statement}
 use Rattle.zovattha.proofs.zovattha_set_date.Tie as tie
 
-set-date-requires : tie.Need-set-date-requires
-set-date-requires c κs = search needs
+set-requires : tie.Need-set-requires
+set-requires c κs = search needs
 
 answer-of-requires : tie.Need-answer-of-requires
 answer-of-requires c κs = search needs
 
 returns : tie.Need-returns
-returns c = replied (c .answer-of .ensures) (c .before .set-date .ensures)
+returns c = replied (c .answer-of .ensures) (c .before .set .ensures)
 
 pub zovattha-set-date-spec : {M : Type 1} → statement M
-zovattha-set-date-spec = tie.close (tie.spec set-date-requires answer-of-requires returns)
+zovattha-set-date-spec = tie.close (tie.spec set-requires answer-of-requires returns)

@@ -4,14 +4,14 @@ use Rattle.zovattha.proofs.Calls.{replied}
 use Rattle.zovattha.proofs.zovattha_set_full_year.Statement.{statement}
 use Rattle.zovattha.proofs.zovattha_set_full_year.Tie as tie
 
-set-full-year-requires : tie.Need-set-full-year-requires
-set-full-year-requires c κs = search needs
+set-requires : tie.Need-set-requires
+set-requires c κs = search needs
 
 answer-of-requires : tie.Need-answer-of-requires
 answer-of-requires c κs = search needs
 
 returns : tie.Need-returns
-returns c = replied (c .answer-of .ensures) (c .before .set-full-year .ensures)
+returns c = replied (c .answer-of .ensures) (c .before .set .ensures)
 
 pub zovattha-set-full-year-spec : {M : Type 1} → statement M
-zovattha-set-full-year-spec = tie.close (tie.spec set-full-year-requires answer-of-requires returns)
+zovattha-set-full-year-spec = tie.close (tie.spec set-requires answer-of-requires returns)

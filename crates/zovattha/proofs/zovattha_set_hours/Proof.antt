@@ -4,14 +4,14 @@ use Rattle.zovattha.proofs.Calls.{replied}
 use Rattle.zovattha.proofs.zovattha_set_hours.Statement.{statement}
 use Rattle.zovattha.proofs.zovattha_set_hours.Tie as tie
 
-set-hours-requires : tie.Need-set-hours-requires
-set-hours-requires c κs = search needs
+set-requires : tie.Need-set-requires
+set-requires c κs = search needs
 
 answer-of-requires : tie.Need-answer-of-requires
 answer-of-requires c κs = search needs
 
 returns : tie.Need-returns
-returns c = replied (c .answer-of .ensures) (c .before .set-hours .ensures)
+returns c = replied (c .answer-of .ensures) (c .before .set .ensures)
 
 pub zovattha-set-hours-spec : {M : Type 1} → statement M
-zovattha-set-hours-spec = tie.close (tie.spec set-hours-requires answer-of-requires returns)
+zovattha-set-hours-spec = tie.close (tie.spec set-requires answer-of-requires returns)

@@ -4,14 +4,14 @@ use Rattle.zovattha.proofs.Calls.{replied}
 use Rattle.zovattha.proofs.zovattha_set_minutes.Statement.{statement}
 use Rattle.zovattha.proofs.zovattha_set_minutes.Tie as tie
 
-set-minutes-requires : tie.Need-set-minutes-requires
-set-minutes-requires c κs = search needs
+set-requires : tie.Need-set-requires
+set-requires c κs = search needs
 
 answer-of-requires : tie.Need-answer-of-requires
 answer-of-requires c κs = search needs
 
 returns : tie.Need-returns
-returns c = replied (c .answer-of .ensures) (c .before .set-minutes .ensures)
+returns c = replied (c .answer-of .ensures) (c .before .set .ensures)
 
 pub zovattha-set-minutes-spec : {M : Type 1} → statement M
-zovattha-set-minutes-spec = tie.close (tie.spec set-minutes-requires answer-of-requires returns)
+zovattha-set-minutes-spec = tie.close (tie.spec set-requires answer-of-requires returns)

@@ -4,14 +4,14 @@ use Rattle.zovattha.proofs.Calls.{replied}
 use Rattle.zovattha.proofs.zovattha_set_month.Statement.{statement}
 use Rattle.zovattha.proofs.zovattha_set_month.Tie as tie
 
-set-month-requires : tie.Need-set-month-requires
-set-month-requires c κs = search needs
+set-requires : tie.Need-set-requires
+set-requires c κs = search needs
 
 answer-of-requires : tie.Need-answer-of-requires
 answer-of-requires c κs = search needs
 
 returns : tie.Need-returns
-returns c = replied (c .answer-of .ensures) (c .before .set-month .ensures)
+returns c = replied (c .answer-of .ensures) (c .before .set .ensures)
 
 pub zovattha-set-month-spec : {M : Type 1} → statement M
-zovattha-set-month-spec = tie.close (tie.spec set-month-requires answer-of-requires returns)
+zovattha-set-month-spec = tie.close (tie.spec set-requires answer-of-requires returns)

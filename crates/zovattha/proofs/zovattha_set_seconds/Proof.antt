@@ -4,14 +4,14 @@ use Rattle.zovattha.proofs.Calls.{replied}
 use Rattle.zovattha.proofs.zovattha_set_seconds.Statement.{statement}
 use Rattle.zovattha.proofs.zovattha_set_seconds.Tie as tie
 
-set-seconds-requires : tie.Need-set-seconds-requires
-set-seconds-requires c κs = search needs
+set-requires : tie.Need-set-requires
+set-requires c κs = search needs
 
 answer-of-requires : tie.Need-answer-of-requires
 answer-of-requires c κs = search needs
 
 returns : tie.Need-returns
-returns c = replied (c .answer-of .ensures) (c .before .set-seconds .ensures)
+returns c = replied (c .answer-of .ensures) (c .before .set .ensures)
 
 pub zovattha-set-seconds-spec : {M : Type 1} → statement M
-zovattha-set-seconds-spec = tie.close (tie.spec set-seconds-requires answer-of-requires returns)
+zovattha-set-seconds-spec = tie.close (tie.spec set-requires answer-of-requires returns)

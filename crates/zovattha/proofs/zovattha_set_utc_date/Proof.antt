@@ -4,18 +4,18 @@ use Rattle.zovattha.proofs.Calls.{replied}
 use Rattle.zovattha.proofs.zovattha_set_utc_date.Statement.{statement}
 use Rattle.zovattha.proofs.zovattha_set_utc_date.Tie as tie
 
-slice-aggregate-set-date : tie.Need-slice-aggregate-set-date
-slice-aggregate-set-date c = search needs
+slice-aggregate-set : tie.Need-slice-aggregate-set
+slice-aggregate-set c = search needs
 
-set-date-requires : tie.Need-set-date-requires
-set-date-requires c κs = search needs
+set-requires : tie.Need-set-requires
+set-requires c κs = search needs
 
 answer-of-requires : tie.Need-answer-of-requires
 answer-of-requires c κs = search needs
 
 returns : tie.Need-returns
-returns c = replied (c .answer-of .ensures) (c .before .set-date .ensures)
+returns c = replied (c .answer-of .ensures) (c .before .set .ensures)
 
 pub zovattha-set-utc-date-spec : {M : Type 1} → statement M
 zovattha-set-utc-date-spec =
-    tie.close (tie.spec slice-aggregate-set-date set-date-requires answer-of-requires returns)
+    tie.close (tie.spec slice-aggregate-set set-requires answer-of-requires returns)

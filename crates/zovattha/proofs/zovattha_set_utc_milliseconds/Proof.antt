@@ -4,19 +4,19 @@ use Rattle.zovattha.proofs.Calls.{replied}
 use Rattle.zovattha.proofs.zovattha_set_utc_milliseconds.Statement.{statement}
 use Rattle.zovattha.proofs.zovattha_set_utc_milliseconds.Tie as tie
 
-slice-aggregate-set-milliseconds : tie.Need-slice-aggregate-set-milliseconds
-slice-aggregate-set-milliseconds c = search needs
+slice-aggregate-set : tie.Need-slice-aggregate-set
+slice-aggregate-set c = search needs
 
-set-milliseconds-requires : tie.Need-set-milliseconds-requires
-set-milliseconds-requires c κs = search needs
+set-requires : tie.Need-set-requires
+set-requires c κs = search needs
 
 answer-of-requires : tie.Need-answer-of-requires
 answer-of-requires c κs = search needs
 
 returns : tie.Need-returns
-returns c = replied (c .answer-of .ensures) (c .before .set-milliseconds .ensures)
+returns c = replied (c .answer-of .ensures) (c .before .set .ensures)
 
 pub zovattha-set-utc-milliseconds-spec : {M : Type 1} → statement M
 zovattha-set-utc-milliseconds-spec =
     tie.close
-    (tie.spec slice-aggregate-set-milliseconds set-milliseconds-requires answer-of-requires returns)
+    (tie.spec slice-aggregate-set set-requires answer-of-requires returns)
