@@ -1,7 +1,7 @@
 -- The map's ones, and the places of the fields: the ones below a bit and those from it on are all of them, so the field of a bit that stands
 -- lies within a record of the right length. Assumes nothing.
-use mathlib.Core.Path.{_≡_, refl, sym, ap, _∙_, subst}
-use mathlib.Core.Bool.{Bool, true, false, cond}
+use mathlib.Core.Path.{_≡_, sym, ap, _∙_, subst}
+use mathlib.Core.Bool.{true, false}
 use mathlib.Core.List.{List}
 use Prim.Native.Nat.{ℕ, _+_, _*_, _/_, _%_, _^_, _≤_, _<_}
 use native.Mathlib.Nat.{mod-lt, div-add-mod', mod-one, pow-suc, div-div-eq-div-mul, le-div-iff-mul-le, div-lt-iff-lt-mul, one-mul}
@@ -74,12 +74,3 @@ module _ (bytes : List ℕ) (i : ℕ) where
     pub field-given : mapOf bytes / 2 ^ i % 2 ≡ 1 → fieldOr bytes i absent ≡ fieldAt bytes i
     unfolding fieldOr
     field-given h = rw (bit-given h)
-
--- a field read with one value for an absent one, and another in its place
-pub or-else : (bytes : List ℕ) (i : ℕ) (one other : Float) → cond (stands bytes i) (fieldOr bytes i one) other ≡ fieldOr bytes i other
-unfolding fieldOr
-or-else bytes i one other = go (stands bytes i)
-  where
-    go : (b : Bool) → cond b (cond b (fieldAt bytes i) one) other ≡ cond b (fieldAt bytes i) other
-    go true = refl
-    go false = refl

@@ -2,7 +2,6 @@
 -- Assumes nothing.
 use mathlib.Core.Path.{_≡_, sym, ap, ap₂, _∙_, subst}
 use Prim.Native.Nat.{ℕ, zero, suc, _-_, _*_, _/_, _%_, _^_, _≤_, _<_, min}
-use native.Mathlib.Nat.{le-of-lt}
 use native.Mathlib.Omega.{arith}
 use mathlib.Core.Bool.{Bool, true, false, not, _&&_, cond, true≢false, false≢true}
 use lib.IntN.{ℤ, pos, negsuc, negℤ, natAbs, _+ℤ_, +ℤ-idr, pos-ne-negsuc}
@@ -12,9 +11,8 @@ use lib.Ieee.{Float, nan, inf, fin, Format, binary64, prec, up, down, add, ofBit
 use lib.Pow.{pow-pos}
 use lib.Ieee.Fits.{down-pos, eq→eqb, and-i}
 use lib.Ieee.Exact.{HasValue}
-use lib.Ieee.Scale.{finite}
-use Rattle.float.specs.Whole.{signed, IsWhole, truncZ, plain}
-use Rattle.float.proofs.Fractions.{cut, natAbs-signed}
+use Rattle.float.specs.Whole.{signed, IsWhole, plain}
+use Rattle.float.proofs.Fractions.{cut}
 use Rattle.float.proofs.Whole.{size-is, add-whole, add-plain}
 use Rattle.float.proofs.Literal.{zero-whole}
 
@@ -111,17 +109,6 @@ plus-zero {x} {z} w h =
 pub cast-signed : (h : ℕ) {x : Float} {z : ℤ} → IsWhole x z → natAbs z ≤ 2 ^ 53 → mag z < 2 ^ h
     → T (inSigned binary64 h (add binary64 x (ofBits binary64 0))) × (toSigned h (add binary64 x (ofBits binary64 0)) ≡ z)
 cast-signed h w b s = let v = plus-zero w b in (inSigned-whole binary64 h (v .0) b s (v .1), toSigned-whole h (v .0) s)
-
--- ---- the cast of any finite float drops the fraction
-pub toSigned-trunc : (h : ℕ) (x : Float) → T (finite x) → natAbs (truncZ x) < 2 ^ h → toSigned h x ≡ truncZ x
-unfolding toSigned truncZ
-toSigned-trunc h nan F r = absurd F
-toSigned-trunc h (inf s) F r = absurd F
-toSigned-trunc h (fin s m e) F r = go s (subst (λ (i : ℕ). i < 2 ^ h) (natAbs-signed s (m * up e / down e)) r)
-  where
-    go : (s : Bool) → m * up e / down e < 2 ^ h → cond s (negℤ (pos (min (m * up e / down e) (2 ^ h)))) (pos (min (m * up e / down e) (2 ^ h - 1))) ≡ signed s (m * up e / down e)
-    go true k = ap (λ (i : ℕ). negℤ (pos i)) (uncapped-le (m * up e / down e) (2 ^ h) (le-of-lt k))
-    go false k = ap pos (uncapped (m * up e / down e) (2 ^ h) k)
 
 -- ---- and back: an integer of at most 53 digits is a float
 pub int-in-float : (z : ℤ) → natAbs z ≤ 2 ^ 53 → T (inFloat binary64 z)

@@ -1,13 +1,12 @@
--- NaN and the infinities: the test `x != x`, and what the subtraction, the division, the equality and the remainder that are cited give of them.
+-- NaN: the test `x != x`, the equality with it, and the NaN that the code makes.
 -- Assumes nothing.
 use mathlib.Core.Path.{_≡_, refl, subst}
-use mathlib.Core.Bool.{Bool, true, false, not, false≢true}
+use mathlib.Core.Bool.{true, false, not, false≢true}
 use lib.Dec.{T, not-T}
-use lib.Ieee.{Float, nan, inf, fin, Format, add, sub, div, rem, neg, lt, eq, ne, isNan, binary64, ofBits}
+use lib.Ieee.{Float, nan, inf, fin, div, eq, ne, isNan, binary64, ofBits}
 use lib.Ieee.Bits.{is-false}
 use lib.Ieee.Compare.{differs-from-itself, nan-differs}
 use lib.Ieee.Scale.{finite}
-use Rattle.float.specs.Rounding.{remEuclidF}
 
 -- ---- the tests `x != x` and `is_finite`
 number : (x : Float) → T (not (isNan x)) → x ≡ nan → ⊥
@@ -32,18 +31,6 @@ finite-number nan F = F
 finite-number (inf s) F = tt
 finite-number (fin s m e) F = tt
 
--- ---- NaN through the operations
-
-pub sub-nan-right : (f : Format) (x : Float) → sub f x nan ≡ nan
-unfolding sub add neg
-sub-nan-right f nan = refl
-sub-nan-right f (inf s) = refl
-sub-nan-right f (fin s m e) = refl
-
-pub div-nan-left : (f : Format) (y : Float) → div f nan y ≡ nan
-unfolding div
-div-nan-left f y = refl
-
 -- ---- NaN in a test
 
 pub eq-nan-right : (x : Float) → eq x nan ≡ false
@@ -51,14 +38,6 @@ unfolding eq
 eq-nan-right nan = refl
 eq-nan-right (inf s) = refl
 eq-nan-right (fin s m e) = refl
-
--- ---- an infinity
-
-pub rem-euclid-inf : (s : Bool) (y : Float) → remEuclidF (inf s) y ≡ nan
-unfolding remEuclidF rem lt
-rem-euclid-inf s y = refl
-
--- ---- a finite result has finite operands
 
 -- ---- the NaN that the code makes
 pub made-nan : div binary64 (ofBits binary64 0) (ofBits binary64 0) ≡ nan

@@ -188,11 +188,6 @@ add-plain f {x} {y} {z} {w} u v h p =
     rounded-plain f (add f x y) (z +ℤ w) ((T (u .sign) × (u .size ≡ 0)) × (T (v .sign) × (v .size ≡ 0))) (add-cases f u v) h
     (λ n. not-plain y (v .sign) (v .size) (v .value) (n .1 .0) (n .1 .1) p)
 
-pub add-plain-left : (f : Format) {x y : Float} {z w : ℤ} → IsWhole x z → IsWhole y w → natAbs (z +ℤ w) ≤ 2 ^ prec f → T (plain x) → T (plain (add f x y))
-add-plain-left f {x} {y} {z} {w} u v h p =
-    rounded-plain f (add f x y) (z +ℤ w) ((T (u .sign) × (u .size ≡ 0)) × (T (v .sign) × (v .size ≡ 0))) (add-cases f u v) h
-    (λ n. not-plain x (u .sign) (u .size) (u .value) (n .0 .0) (n .0 .1) p)
-
 zero-fits : (f : Format) (s : Bool) → T (fits f (fin s 0 (pos 0)))
 unfolding fits
 zero-fits f s = tt

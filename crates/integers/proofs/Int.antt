@@ -165,13 +165,3 @@ by-cond P false x y f g = g tt
 pub natural : (x : ℤ) → pos 0 ≤ℤ x → x ≡ pos (plus x)
 natural (pos n) h = refl
 natural (negsuc n) h = absurd (h .le)
-
--- ---- examples
-assoc : (a b c : ℤ) → (a +ℤ b) +ℤ c ≡ a +ℤ (b +ℤ c)
-assoc a b c = omega (ints, read ((at a +ᵗ at b) +ᵗ at c), read (at a +ᵗ (at b +ᵗ at c)))
-
-trans : (a b c : ℤ) → a ≤ℤ b → b <ℤ c → a <ℤ c
-trans a b c h k = omega ints
-
-shift : (x : ℤ) → floorDiv (x +ℤ pos 400) 400 ≡ floorDiv x 400 +ℤ pos 1
-shift x = omega (ints, read ((at x +ᵗ at (pos 400)) /ᵗ 400), read (at x /ᵗ 400 +ᵗ at (pos 1)))

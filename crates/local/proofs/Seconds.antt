@@ -7,12 +7,11 @@ use Prim.Native.Nat.{ℕ, zero, suc, _-_, _*_, _/_, _^_, _≤_, _<_, min}
 use native.Mathlib.Omega.{arith}
 use lib.Dec.{T, ltb, ltb→lt, nltb→le}
 use lib.IntN.{pos, negsuc, negℤ}
-use lib.Ieee.{Float, nan, inf, fin, binary64, up, down, add, sub, div, toSigned}
+use lib.Ieee.{Float, nan, inf, fin, binary64, up, down, sub, div, toSigned}
 use lib.Ieee.Scale.{finite}
 use Rattle.integers.proofs.Int.{by-cond}
 use Rattle.float.specs.Whole.{signed, truncZ}
 use Rattle.float.specs.Rounding.{remEuclidF}
-use Rattle.float.proofs.Special.{sub-nan-right, div-nan-left, rem-euclid-inf}
 use Rattle.calendar.specs.Calendar.{num}
 use Rattle.zone.specs.Zone.{records, Accepted, offsetAt, least64, greatest64, nearest64}
 use Rattle.zone.proofs.Offset.{offset-nearest}
@@ -41,10 +40,6 @@ below n = by-cond (λ z. negℤ (pos (min (suc n) (2 ^ 63))) ≡ z) (ltb 9223372
     inside : n ≤ 9223372036854775807 → min (suc n) 9223372036854775808 ≡ suc n
     inside h = omega arith
 
-cast-nan : toSigned 63 nan ≡ pos 0
-unfolding toSigned
-cast-nan = refl
-
 pub cast-nearest : (x : Float) → T (finite x) → toSigned 63 x ≡ nearest64 (truncZ x)
 unfolding toSigned truncZ
 cast-nearest nan F = absurd F
@@ -55,18 +50,6 @@ cast-nearest (fin s m e) F = go s (m * up e / down e)
     go false n = above n
     go true zero = refl
     go true (suc n) = below n
-
--- ---- a time that is not finite asks for second 0
-pub asked-second-nan : askedSecondF nan ≡ pos 0
-unfolding askedSecondF sub add div toSigned
-asked-second-nan = refl
-
-pub asked-second-inf : (s : Bool) → askedSecondF (inf s) ≡ pos 0
-unfolding askedSecondF
-asked-second-inf s =
-    ap (λ (r : Float). toSigned 63 (div binary64 (sub binary64 (inf s) r) (num 1000))) (rem-euclid-inf s (num 1000))
-    ∙ ap (λ (d : Float). toSigned 63 (div binary64 d (num 1000))) (sub-nan-right binary64 (inf s))
-    ∙ ap (toSigned 63) (div-nan-left binary64 (num 1000)) ∙ cast-nan
 
 -- ---- so no bound of 64 bits is felt
 abbrev quotient : Float → Float

@@ -2,14 +2,13 @@
 -- range and never -0. Assumes nothing.
 use mathlib.Core.Path.{_≡_, refl, sym, ap, _∙_, subst}
 use mathlib.Core.Bool.{Bool, true, false, not, cond, _&&_, false≢true}
-use Prim.Native.Nat.{zero, suc, _^_, _≤_, _<_}
+use Prim.Native.Nat.{_^_, _≤_, _<_}
 use native.Mathlib.Nat.{div-one, zero-lt-suc}
 use native.Mathlib.Omega.{arith}
 use lib.Dec.{T, leb, leb→le, nleb→lt, lit<, lit≤}
-use lib.IntN.{ℤ, pos, negsuc, natAbs}
+use lib.IntN.{ℤ, pos, natAbs}
 use lib.Ieee.{Float, nan, binary64, fits, lt, eq, ofInt}
 use lib.Ieee.Bits.{is-true}
-use lib.Ieee.Fits.{ofInt-fits}
 use lib.Ieee.Scale.{finite}
 use Rattle.ecma262.specs.Date.{timeRange, InRange, TimeClip}
 use Rattle.integers.proofs.Int.{ints, by-test}
@@ -18,9 +17,9 @@ use Rattle.ecma262.proofs.Range.{clip-inside, clip-outside}
 use Rattle.float.specs.Whole.{IsWhole, truncZ}
 use Rattle.float.specs.Rounding.{truncF, absF, isWholeWithin}
 use Rattle.float.proofs.Within.{within-is, plus-zero-whole}
-use Rattle.float.proofs.Whole.{ofInt-whole, round-is-whole, unique, plain-nonzero, int-unique}
+use Rattle.float.proofs.Whole.{round-is-whole, plain-nonzero, int-unique}
 use Rattle.float.proofs.Rounding.{wholeNumber, trunc-value, trunc-whole, trunc-fits, abs-whole, whole-finite}
-use Rattle.float.proofs.Order.{lt-holds, lt-fails, eq-yes, eq-no, trunc-bounded}
+use Rattle.float.proofs.Order.{lt-holds, lt-fails, eq-no, trunc-bounded}
 use Rattle.calendar.specs.Calendar.{num}
 use Rattle.calendar.proofs.Whole.{num-whole}
 use Rattle.make.specs.Make.{timeClipF, timeValue, IsTimeValue, no-time, time}

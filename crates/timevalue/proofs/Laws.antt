@@ -7,7 +7,7 @@ use native.Mathlib.Nat.{le-trans}
 use native.Mathlib.Omega.{arith}
 use lib.Dec.{T, lit≤}
 use lib.IntN.{ℤ, pos}
-use lib.Ieee.{Float, nan, binary64, ofBits, toBits, ofInt, eq, isNan, fits}
+use lib.Ieee.{Float, nan, binary64, ofBits, toBits, ofInt, isNan, fits}
 use lib.Ieee.Bits.{ofBits-toBits, ofBits-fits, is-false}
 use lib.Ieee.Fits.{ofInt-fits}
 use Rattle.ecma262.specs.Date.{timeRange, InRange}
@@ -107,7 +107,3 @@ time-back z r = ap judged (ofBits-toBits binary64 x (ofInt-fits binary64 z)) ∙
 
     no-nan : isNan x ≡ false
     no-nan = is-false (isNan x) (finite-number x (whole-finite u))
-
-pub nan-back : timeValueOf (toBits binary64 nan) ≡ Nan
-unfolding timeValueOf ofBits toBits isNan
-nan-back = refl

@@ -1,5 +1,5 @@
 -- Every slice of records has bytes that hold them: `encoded`. So the equality of the two lookups, and of the two tests, is about every slice. Assumes nothing.
-use mathlib.Core.Path.{_≡_, refl, sym, ap, subst, _∙_}
+use mathlib.Core.Path.{_≡_, refl, ap, subst, _∙_}
 use mathlib.Core.Bool.{Bool}
 use mathlib.Core.List.{List, [], _∷_}
 use Prim.Native.Nat.{ℕ, zero, suc, _+_, _*_, _-_, _/_, _%_, _^_, _<_}
@@ -10,9 +10,8 @@ use lib.IntN.{ℤ, pos, negsuc}
 use lib.ListN.{length, getD}
 use lib.Signed.{mag}
 use Rattle.little_endian.specs.Bytes.{littleEndian, twosComplement}
-use Rattle.zone.specs.Zone.{Record, recordAt, records, listed, IsZoneList, isZoneList, Accepted, accepts, offsetAt}
+use Rattle.zone.specs.Zone.{Record, recordAt, records, listed, isZoneList, accepts, offsetAt}
 use Rattle.little_endian.proofs.Numbers.{signed-low, signed-high}
-use Rattle.zone.proofs.Rule.{records-length}
 use Rattle.zone_records.specs.declared.ZoneRecord.{ZoneRecord}
 use Rattle.zone_records.specs.Slice.{asRecord, asRecords}
 use Rattle.zone_records.specs.Encoded.{bytesThen, unsigned, encoded, Representable}
@@ -117,11 +116,7 @@ encoded-records zs m =
     let size : length (encoded zs) / 12 ≡ length zs = omega (arith, encoded-length zs) in
     ap (λ (n : ℕ). listed n (recordAt (encoded zs))) size ∙ listed-back zs m
 
--- a slice that satisfies the rule is an accepted list in bytes, and the two lookups agree on it
-pub encoded-accepted : (zs : List ZoneRecord) → Representable zs → IsZoneList (asRecords zs) → Accepted (encoded zs)
-encoded-accepted zs m rule =
-    record { whole = omega (arith, encoded-length zs, records-length (encoded zs)); rule = subst IsZoneList (sym (encoded-records zs m)) rule }
-
+-- the two lookups agree on a slice and its bytes
 pub encoded-lookup : (zs : List ZoneRecord) → Representable zs → (t r s : ℤ) → r ≡ offsetAt (records (encoded zs)) t → s ≡ offsetAt (asRecords zs) t → s ≡ r
 encoded-lookup zs m = same-lookup (encoded zs) zs (encoded-records zs m)
 
