@@ -95,12 +95,12 @@ pub fn set(first: Part, local: bool, zone: &[u8], time: u64, fields: &[u8]) -> R
     if is_refused(date) {
         return Reply::Refused(Refusal::TimeValue);
     }
+    let t = start_of(local, zone, date);
     if !field_record::has_length(fields) {
         return Reply::Refused(Refusal::RecordLength);
     }
     if field_record::has_other_bit(fields, bits_of(first)) {
         return Reply::Refused(Refusal::RecordMap);
     }
-    let t = start_of(local, zone, date);
     Reply::Time(new_date::value_of(local, zone, new_date::set(first, t, fields)))
 }

@@ -23,12 +23,18 @@ row c = let z = c .before .before .before .args .zone .now in ⊎-elim (λ w. li
 time-test : (c : tie.After-is-refused) → isRefused (timeValueOf (c .before .before .before .before .before .args .time)) ≡ c .is-refused .result
 time-test c = sym (c .is-refused .ensures ∙ ap isRefused (c .before .time-value .ensures))
 
-filled : (c : tie.Else4) → hasLength (c .before .before .before .before .before .before .before .before .args .fields .now) ≡ true
+past-list : (c : tie.Else3) → let a = c .before .before .before .before .before .before .args in a .local ≡ true → Accepted (a .zone .now)
+past-list c =
+    let j = c .before .before .before in
+    let a = j .before .before .before .args in
+    listed (a .local) (a .zone .now) (row j)
+
+filled : (c : tie.Else4) → hasLength (c .before .before .before .before .before .before .before .before .before .args .fields .now) ≡ true
 filled c = sym (c .before .has-length .ensures) ∙ not-false _ (c .if4 .left)
 
-map-test : (c : tie.After-has-other-bit) → let a = c .before .before .before .before .before .before .before .before .before .before .args in hasOtherBit (bitsOf (set (a .first))) (a .fields .now) ≡ c .has-other-bit .result
+map-test : (c : tie.After-has-other-bit) → let a = c .before .before .before .before .before .before .before .before .before .before .before .args in hasOtherBit (bitsOf (set (a .first))) (a .fields .now) ≡ c .has-other-bit .result
 map-test c =
-    let a = c .before .before .before .before .before .before .before .before .before .before .args in
+    let a = c .before .before .before .before .before .before .before .before .before .before .before .args in
     sym (c .has-other-bit .ensures ∙ ap (λ (n : ℕ). hasOtherBit n (a .fields .now)) (c .before .bits-of .ensures))
 
 returns : tie.Need-returns
@@ -42,36 +48,30 @@ returns-2 c = let k = c .before in rw (row (k .before .before), time-test k ∙ 
 returns-3 : tie.Need-returns-3
 unfolding setOutcome
 returns-3 c =
-    let t = c .before .before in
-    rw (row (t .before .before .before), time-test (t .before) ∙ t .if3 .left, sym (c .before .has-length .ensures) ∙ not-true _ (c .if4 .taken))
+    let d = c .before .before .before in
+    rw (row (d .before .before .before), time-test (d .before) ∙ d .if3 .left, sym (c .before .has-length .ensures) ∙ not-true _ (c .if4 .taken))
 
 returns-4 : tie.Need-returns-4
 unfolding setOutcome
 returns-4 c =
     let l = c .before .before .before in
-    let t = l .before .before in
-    rw (row (t .before .before .before), time-test (t .before) ∙ t .if3 .left, filled l, map-test (c .before) ∙ c .if5 .taken)
-
-past-list : (c : tie.Else5) → let a = c .before .before .before .before .before .before .before .before .before .before .before .args in a .local ≡ true → Accepted (a .zone .now)
-past-list c =
-    let j = c .before .before .before .before .before .before .before .before in
-    let a = j .before .before .before .args in
-    listed (a .local) (a .zone .now) (row j)
+    let d = l .before .before .before in
+    rw (row (d .before .before .before), time-test (d .before) ∙ d .if3 .left, filled l, map-test (c .before) ∙ c .if5 .taken)
 
 returns-5 : tie.Need-returns-5
 unfolding setOutcome valueFrom
 returns-5 c =
-    let s = c .before .before in
-    let m = s .before in
+    let m = c .before .before in
     let l = m .before .before .before in
     let t = l .before .before in
-    let a = t .before .before .before .before .before .before .args in
-    rw (row (t .before .before .before), time-test (t .before) ∙ t .if3 .left, filled l, map-test (m .before) ∙ m .if5 .left)
+    let d = t .before in
+    let a = d .before .before .before .before .before .before .args in
+    rw (row (d .before .before .before), time-test (d .before) ∙ d .if3 .left, filled l, map-test (m .before) ∙ m .if5 .left)
     (ap reply.Time
     (c .value-of .ensures
     ∙ ap (λ (x : Float). toBits binary64 (valueOut (a .local) (records (a .zone .now)) x))
     (c .before .set .ensures
-    ∙ ap (λ (t : Float). newDateOf (set (a .first)) t (a .fields .now)) (s .start-of .ensures ∙ ap (startOf (a .local) (records (a .zone .now))) (t .before .before .time-value .ensures)))))
+    ∙ ap (λ (x : Float). newDateOf (set (a .first)) x (a .fields .now)) (t .start-of .ensures ∙ ap (startOf (a .local) (records (a .zone .now))) (d .before .before .time-value .ensures)))))
 
 pub set-spec : {M : Type 1} → statement M
 set-spec =
@@ -82,12 +82,12 @@ set-spec =
     (λ c κs. search needs)
     (λ c κs. search needs)
     returns-2
+    (λ c κs. past-list c)
     (λ c κs. search needs)
     returns-3
     (λ c κs. search needs)
-    (λ c κs. (filled (c .before), rw (c .bits-of .ensures) (bits-few (c .before .before .before .before .before .before .before .before .before .args .first))))
+    (λ c κs. (filled (c .before), rw (c .bits-of .ensures) (bits-few (c .before .before .before .before .before .before .before .before .before .before .args .first))))
     returns-4
-    (λ c κs. past-list c)
-    (λ c κs. filled (c .before .before .before .before))
-    (λ c κs. past-list (c .before .before))
+    (λ c κs. filled (c .before .before .before))
+    (λ c κs. past-list (c .before .before .before .before .before .before .before))
     returns-5)
