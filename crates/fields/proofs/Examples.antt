@@ -81,6 +81,7 @@ rows =
     built false [] (fieldsOf 127 (0x409fa00000000000 ∷ 0x3ff0000000000000 ∷ 0x403d000000000000 ∷ 0x4028000000000000 ∷ 0x0 ∷ 0x0 ∷ 0x0 ∷ [])) 0 0x4278df4bc5600000 ∷  -- all seven: 2024-02-29T12:00:00Z
     built false [] (fieldsOf 2 (0x3ff0000000000000 ∷ [])) 0 0x7ff8000000000000 ∷  -- no year is NaN
     built true marked (fieldsOf 3 (0x409ec80000000000 ∷ 0x0 ∷ [])) 0 0xc15b774000000000 ∷  -- a local year and month
+    built true [] [] 1 0x7ff8000000000000 ∷  -- 1 before 3
     built false [] (fieldsOf 128 (0x3ff0000000000000 ∷ [])) 4 0x7ff8000000000000 ∷  -- the builder has seven bits
     []
 
