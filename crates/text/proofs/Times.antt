@@ -5,7 +5,7 @@ use native.Mathlib.Omega.{arith}
 use lib.IntN.{ℤ, natAbs}
 use Rattle.ecma262.specs.Date.{WeekDay, Valid, fieldsOf}
 use Rattle.ecma262.proofs.Fields.{fields-valid}
-use Rattle.ecma262.proofs.Texts.{weekday-small}
+use Rattle.ecma262.proofs.Clock.{week-day-small}
 use Rattle.ecma262.proofs.Written.{year-small, month-days}
 use Rattle.text.specs.declared.DateFields.{DateFields}
 use Rattle.text.specs.Contracts.{wholeOf, Printable}
@@ -25,4 +25,4 @@ valid-printable f v y w =
 
 pub time-printable : (f : DateFields) (t : ℤ) → natAbs t ≤ 8_640_000_086_399_000 → wholeOf f ≡ fieldsOf t → f .weekday ≡ WeekDay t → Printable f
 time-printable f t h e w =
-    valid-printable f (subst Valid (sym e) (fields-valid t)) (subst (λ g. natAbs (g .year) ≤ 999999) (sym e) (year-small t h)) (subst (λ d. d < 7) (sym w) (weekday-small t))
+    valid-printable f (subst Valid (sym e) (fields-valid t)) (subst (λ g. natAbs (g .year) ≤ 999999) (sym e) (year-small t h)) (subst (λ d. d < 7) (sym w) (week-day-small t))
