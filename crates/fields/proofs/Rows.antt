@@ -1,4 +1,4 @@
--- Row 1 of the refusal table, as the code tests it, and where a setter starts in whole numbers. Assumes nothing.
+-- What is known past row 1 of the refusal table, and where a setter starts in whole numbers. Assumes nothing.
 use mathlib.Core.Path.{_≡_, refl, sym, _∙_}
 use mathlib.Core.Bool.{Bool, true, false, not, _&&_, true≢false, false≢true}
 use mathlib.Core.List.{List}
@@ -18,12 +18,7 @@ use Rattle.new_date.specs.declared.Part.the-variants.{Milliseconds, Seconds, Mi
 use Rattle.new_date.specs.Calls.{set, bitsOf, shiftIn}
 use Rattle.new_date.specs.Standard.{shiftInZ}
 
--- ---- row 1: what the test of a local call's list says, and that no other call has one
-pub list-test : (zone : List ℕ) {local r b : Bool} → local ≡ true → r ≡ accepts zone → not r ≡ b → (local && not (accepts zone)) ≡ b
-list-test zone l e n = (λ i. l i && not (sym e i)) ∙ n
-
-pub no-list : (zone : List ℕ) {local : Bool} → local ≡ false → (local && not (accepts zone)) ≡ false
-no-list zone l = λ i. l i && not (accepts zone)
+-- ---- row 1
 
 -- past row 1, a local call's list is accepted
 pub listed : (local : Bool) (zone : List ℕ) → (local && not (accepts zone)) ≡ false → local ≡ true → Accepted zone

@@ -2,8 +2,8 @@
 // is a UTC call: it has no zone list, and whatever is handed over for one is not looked at. Each contract is one definition for any bits and any bytes
 // (specs/Outcome.antt); that it is the standard's own steps in the exact domain is in proofs/Outcomes.antt.
 ghost use mathlib.Core.Path.{_≡_};
-ghost use mathlib.Core.Bool.{true};
-ghost use Rattle.zone.specs.Zone.{records, Accepted};
+ghost use mathlib.Core.Bool.{true, not, _&&_};
+ghost use Rattle.zone.specs.Zone.{records, Accepted, accepts};
 ghost use Rattle.new_date.specs.Calls.{set, bitsOf, shiftIn};
 ghost use Rattle.fields.specs.Outcome.{isRefused, startOf, buildOutcome, setOutcome};
 use answer::Refusal;
@@ -11,16 +11,33 @@ use answer::Reply;
 use new_date::Part;
 use timevalue::TimeValue;
 
+// ---- row 1
+
+// Whether bytes are no zone list. By itself, so that a UTC call does not copy the list's place and length for it.
+fn is_no_list(zone: &[u8]) -> bool
+    ensures { λ r. ⌜ r ≡ not (accepts (now (zone .entry))) ⌝ }
+{
+    !zone::accept(zone)
+}
+
+// Whether a call's zone list is turned back: refusal 1. A UTC call takes none.
+fn is_list_refused(local: bool, zone: &[u8]) -> bool
+    ensures { λ r. ⌜ r ≡ (local && not (accepts (now (zone .entry)))) ⌝ }
+{
+    if local {
+        return is_no_list(zone);
+    }
+    false
+}
+
 // ---- the builder
 
 // Date.UTC, and the constructor of many fields
 pub fn build(local: bool, zone: &[u8], fields: &[u8]) -> Reply
     ensures { λ r. ⌜ r ≡ buildOutcome local (now (zone .entry)) (now (fields .entry)) ⌝ }
 {
-    if local {
-        if !zone::accept(zone) {
-            return Reply::Refused(Refusal::ZoneList);
-        }
+    if is_list_refused(local, zone) {
+        return Reply::Refused(Refusal::ZoneList);
     }
     if !field_record::has_length(fields) {
         return Reply::Refused(Refusal::RecordLength);
@@ -86,10 +103,8 @@ fn start_of(local: bool, zone: &[u8], date: TimeValue) -> f64
 pub fn set(first: Part, local: bool, zone: &[u8], time: u64, fields: &[u8]) -> Reply
     ensures { λ r. ⌜ r ≡ setOutcome first local (now (zone .entry)) time (now (fields .entry)) ⌝ }
 {
-    if local {
-        if !zone::accept(zone) {
-            return Reply::Refused(Refusal::ZoneList);
-        }
+    if is_list_refused(local, zone) {
+        return Reply::Refused(Refusal::ZoneList);
     }
     let date = timevalue::time_value(time);
     if is_refused(date) {
