@@ -1,9 +1,11 @@
 // What a call answers. Inside, an answer is an enum; a C function answers its number, time value and length.
+#![tactic(auto)]
+
 ghost use Rattle.std.specs.Prelude.{◌≡◌};
 ghost use Rattle.answer.specs.Answer.{refusal_number, answer_of};
 
 // Why a call is turned back: the faults of document 01's table, in its order.
-#[derive(Drop)]
+#[derive(Clone, Copy)]
 pub enum Refusal {
     // Zone list: length, order or offset outside its rule.
     ZoneList,
@@ -29,7 +31,7 @@ pub enum Refusal {
     Output,
 }
 
-#[derive(Drop)]
+#[derive(Clone, Copy)]
 pub enum Reply {
     // A time value, by its bits: the reader, the builder and the setters.
     Time(u64),
@@ -40,7 +42,7 @@ pub enum Reply {
 
 // As the header declares it.
 #[repr(C)]
-#[derive(Drop)]
+#[derive(Clone, Copy)]
 pub struct Answer {
     pub number: u32,
     pub value: u64,

@@ -1,5 +1,5 @@
 pub mod Whole
-pub mod Months
+pub mod Table
 mod Step
 mod Quick
 pub mod Counting

@@ -1,6 +1,8 @@
 // The calendar of builtins/date/utils.rs on f64, function by function under its names. Each contract is the original's operations in
 // its order (specs/Calendar.antt), for every f64; that they are ECMA-262's calendar on whole milliseconds is in proofs/Whole.antt. Of a whole time
 // of the range and its local shifts a function counts in integers; any other goes by those operations.
+#![tactic(auto)]
+
 ghost use Rattle.std.specs.Prelude.{◌≡◌, ◌+◌, ◌*◌, ◌<◌, ◌≤◌, leb, pos, negsuc, nat_abs, ◌+ℤ◌, ◌-ℤ◌, ◌≤ℤ◌};
 ghost use Rattle.std.specs.Float.{binary64};
 ghost use Rattle.std.specs.Float.Ieee.{lt, of_int};
@@ -29,6 +31,12 @@ const MS_PER_DAY: f64 = 86_400_000.0;
 const MS_PER_AVERAGE_YEAR: f64 = 31_556_952_000.0;
 
 const MS_PER_HALF_YEAR: f64 = 15_778_476_000.0;
+
+// The days of a year before each month: twelve of a common year, then twelve of a leap year.
+const DAYS_BEFORE: [u32; 24] = [
+    0, 31, 59, 90, 120, 151, 181, 212, 243, 273, 304, 334, //
+    0, 31, 60, 91, 121, 152, 182, 213, 244, 274, 305, 335,
+];
 
 // ---- the day in whole numbers
 
@@ -283,17 +291,12 @@ pub fn in_leap_year(t: f64) -> u16
     leap_flag(year_from_time(t))
 }
 
-// The days of a year before its month: leap is 1 for a leap year, else 0, and month 0 is January. Were February a month of 30 days, a line of
-// 489/16 days a month, to the nearest day, would have the twelve months' steps; from March on the days that February has not come off.
+// The days of a year before its month: leap is 1 for a leap year, else 0, and month 0 is January.
 pub fn days_before(leap: u32, month: u32) -> u32
     requires { (leap ≤ 1) × (month < 12) }
     ensures { result ≡ days_before leap month }
 {
-    let days = (489 * month + 8) / 16;
-    if month < 2 {
-        return days;
-    }
-    days - 2 + leap
+    DAYS_BEFORE[(12 * leap + month) as usize]
 }
 
 // The month of the day d of a year, both from 0: no month is longer than 32 days, so it is d / 32 or the month after that.
@@ -313,7 +316,7 @@ pub fn month_of_day(leap: u32, d: u32) -> u32
 }
 
 // Year, month and date of a time.
-#[derive(Drop)]
+#[derive(Clone, Copy)]
 pub struct YearMonthDate {
     pub year: i32,
     pub month: u8,
@@ -364,7 +367,7 @@ pub fn week_day(t: f64) -> u8
 }
 
 // Hour, minute, second and millisecond of a time.
-#[derive(Drop)]
+#[derive(Clone, Copy)]
 pub struct Clock {
     pub hour: u8,
     pub minute: u8,

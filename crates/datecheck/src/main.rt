@@ -1,9 +1,11 @@
 // Document 01's program: under the list (0, 0), one text a line in, out the number and, for 0, the time value and ISO text. It reads and
 // writes; what it writes is the work of `datelines`.
+#![tactic(auto)]
+
 ghost use Rattle.std.specs.Prelude.{◌≡◌, ◌≤◌, length};
 
 // Whether to go on, and how many bytes of the open line are kept.
-#[derive(Drop)]
+#[derive(Clone, Copy)]
 struct Turn {
     more: bool,
     kept: usize,

@@ -1,5 +1,7 @@
 // What `datecheck` prints: document 01, "under the list (0, 0), one text a line in, out the number and, for 0, the time value and ISO text".
 // The program reads and writes; all else is here, on slices.
+#![tactic(auto)]
+
 ghost use Rattle.std.specs.Prelude.{◌≡◌, ◌+◌, ◌*◌, ◌≤◌, ◌<◌, nat_abs, length, take};
 ghost use Rattle.std.proofs.lemmas.List.Edits.{sets};
 ghost use Rattle.datelines.specs.Lines.{decimal, signed_decimal, iso_of_bits, accepted_line, refused_line, line_of, behind, prints, emitted, left, lent, last_of, IsTimeBits, Appends};
@@ -95,7 +97,7 @@ pub fn put_line(text: &[u8], output: &mut [u8], at: usize) -> usize
 // ---- lines of a stream
 
 // After a chunk: how many bytes of the open line are kept, and the place behind what was printed.
-#[derive(Drop)]
+#[derive(Clone, Copy)]
 pub struct Fed {
     pub kept: usize,
     pub next: usize,

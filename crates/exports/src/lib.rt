@@ -1,5 +1,7 @@
 // Exports of what stands below the C interface, so that it is compared with the original on its own: an f64 crosses as its bits, a whole number in
 // two's complement, a truth as 0 or 1, digits as bytes with the first lowest. The archive of this crate is for the differential run alone.
+#![tactic(auto)]
+
 ghost use Rattle.std.specs.Prelude.{◌≡◌, ◌+◌, ◌%◌, ◌^◌, Float};
 ghost use Rattle.std.specs.Float.{binary64};
 ghost use Rattle.std.specs.Float.Ieee.{of_bits, to_bits, to_unsigned, to_signed};

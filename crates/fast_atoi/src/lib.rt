@@ -1,5 +1,7 @@
 // `fast_atoi` of date/utils.rs: a block of ASCII digits, the first of them in the lowest byte, joined to the number that they write by
 // three products (two for four digits). The products are "modulo 2^32 or 2^64 on purpose, in a helper".
+#![tactic(auto)]
+
 ghost use Rattle.std.specs.Prelude.{◌≡◌, ◌-◌, ◌*◌, ◌%◌, ◌^◌, ◌<◌, ◌≤◌};
 ghost use Rattle.fast_atoi.specs.Inner.{moved, join4, join8};
 

@@ -1,4 +1,6 @@
 // The field record, in which a call's arguments cross: lent bytes, a map and then 8 for each bit that stands in it.
+#![tactic(auto)]
+
 ghost use Rattle.std.specs.Prelude.{◌≡◌, true, ◌<◌};
 ghost use Rattle.field_record.specs.FieldRecord.{has_length, has_other_bit};
 ghost use Rattle.field_record.specs.Inner.{IsPlace, FieldIs};
@@ -27,7 +29,7 @@ pub fn has_other_bit(fields: &[u8], bits: u32) -> bool
 }
 
 // Whether a bit's field is given, its value, and the place of the next bit's.
-#[derive(Drop)]
+#[derive(Clone, Copy)]
 pub struct Field {
     pub given: bool,
     pub value: f64,

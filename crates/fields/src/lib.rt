@@ -1,6 +1,8 @@
 // The field builder and the setters of builtins/date/mod.rs, on a time value's bits, a zone list and a field record. Where `local` is false the call
 // is a UTC call: it has no zone list, and whatever is handed over for one is not looked at. Each contract is one definition for any bits and any bytes
 // (specs/Outcome.antt); that it is the standard's own steps in the exact domain is in proofs/Outcomes.antt.
+#![tactic(auto)]
+
 ghost use Rattle.std.specs.Prelude.{◌≡◌, true, not, ◌&&◌};
 ghost use Rattle.zone.specs.Zone.{records, Accepted, accepts};
 ghost use Rattle.new_date.specs.Calls.{set, bits_of, shift_in};

@@ -114,7 +114,7 @@ to_unsigned-narrow k (fin false m e) l = narrow (m * up e / down e) 922337203685
 
 -- ---- a result of `as_i64` read back
 read_back : (x : Float) (r : ℤ) → r ≡ to_signed 63 x → to_z w64 (of_z w64 r) ≡ to_signed 63 x
-read_back x r e = ap (λ (z : ℤ). to_z w64 (of_z w64 z)) e ∙ to_z-of_z (record { sfits = to_signed_in 63 x })
+read_back x r e = ap (λ (z : ℤ). to_z w64 (of_z w64 z)) e ∙ to_z-of_z {w = w64} (record { sfits = to_signed_in 63 x })
 
 -- ---- kept within the range from 0 to K, and from -(K + 1) to K
 low-plus : (z : ℤ) (K : ℕ) → lt_z z (pos 0) ≡ true → 0 ≡ min (plus z) K

@@ -1,5 +1,7 @@
 // The f64 methods that the date functions use, worked out from sign, exponent and fraction bits. Each contract holds for every f64: NaN, infinities,
 // -0 and subnormals too. The definitions are in specs/, and the laws of whole numbers in f64 in proofs/.
+#![tactic(auto)]
+
 ghost use Rattle.std.specs.Prelude.{◌≡◌, ◌+◌, ◌-◌, ◌*◌, ◌/◌, ◌%◌, ◌^◌, ◌<◌, ◌≤◌, false, from_bits, is_nan, to_bits};
 ghost use Rattle.std.specs.Float.Ieee.Scale.{finite};
 ghost use Rattle.std.specs.Float.{binary64};

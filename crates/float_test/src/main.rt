@@ -1,5 +1,7 @@
 // Runs every public function of `float` on the pairs of patterns that stand in stdin, one pair to a line, and writes what each gives, one line to a
 // pair. README.md says where stdin and stdout come from: Rust's own answers.
+#![tactic(auto)]
+
 ghost use Rattle.std.specs.Prelude.{◌+◌, ◌≤◌, ◌<◌};
 
 // What a hexadecimal digit stands for.

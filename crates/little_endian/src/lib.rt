@@ -1,4 +1,6 @@
 // Numbers in lent bytes: low byte first, and two's complement.
+#![tactic(auto)]
+
 ghost use Rattle.std.specs.Prelude.{◌≡◌, ◌+◌, ◌≤◌, ◌<◌, length};
 ghost use Rattle.little_endian.specs.Bytes.{little_endian, twos_complement};
 

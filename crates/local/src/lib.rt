@@ -1,6 +1,8 @@
 // Local time of builtins/date/utils.rs under a zone list, function by function under its names. Each contract is the original's operations
 // in its order (specs/Local.antt), for every f64; what they are on whole times is in proofs/Whole.antt. Of a whole time, which nearly every
 // time is, the second is worked out in integers.
+#![tactic(auto)]
+
 ghost use Rattle.std.specs.Prelude.{◌≡◌, ◌≤◌, nat_abs};
 ghost use Rattle.zone.specs.Zone.{records, Accepted};
 ghost use Rattle.local.specs.Local.{asked_second, asked_second_f, offset_seconds_f, local_time_f, utc_f};

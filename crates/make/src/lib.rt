@@ -1,5 +1,7 @@
 // The makers of builtins/date/utils.rs on f64, function by function under its names. Each contract is the original's operations in its
 // order (specs/Make.antt), for every f64; that they are ECMA-262's makers in the exact domain is in proofs/Exact.antt.
+#![tactic(auto)]
+
 ghost use Rattle.std.specs.Prelude.{◌≡◌, not, ◌&&◌, ◌<◌};
 ghost use Rattle.std.specs.Float.Ieee.{le, eq};
 ghost use Rattle.float.specs.Rounding.{is_whole_within};

@@ -1,6 +1,8 @@
 // The new date of the builder and of each setter, in the original's steps (builtins/date/mod.rs), and the bits of its value. A setter takes the
 // time t, which is local where the call is, and the record of its arguments. Each contract is one line of specs/Calls.antt, for every f64 and every
 // record; that it is the standard's own step in the exact domain is in proofs/Exact.antt.
+#![tactic(auto)]
+
 ghost use Rattle.std.specs.Prelude.{◌≡◌, true};
 ghost use Rattle.std.specs.Float.{nan, binary64};
 ghost use Rattle.std.specs.Float.Ieee.{to_bits};
@@ -12,7 +14,7 @@ ghost use Rattle.new_date.specs.Calls.{build, set, present, or_zero, shift_out, 
 use field_record::Field;
 
 // The parts of a date. A setter is named after the first that it sets.
-#[derive(Drop)]
+#[derive(Clone, Copy)]
 pub enum Part {
     Milliseconds,
     Seconds,

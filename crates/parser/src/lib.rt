@@ -4,13 +4,15 @@
 //
 // Each stage is called in one place, from `parse` or from the stage before it: then it is compiled into its caller, and no slice goes
 // through memory.
+#![tactic(auto)]
+
 
 ghost use Rattle.std.specs.Prelude.{◌≡◌, ◌≤◌, ◌<◌, drop};
 ghost use Rattle.parser.specs.Reading.{digits_after, field, signed_year, after, read_year, read_day, read_date, read_decimals, read_second, read_time, read_offset_minute, read_offset, read_zone, after_date, after_zone, time_allowed, time_part, read};
 ghost use Rattle.parser.specs.Inner.{Reads, IsBlock, is_sign, four_digits, hour_allowed, out_digits, out_year, out_date, out_time, out_zone, as_year, as_date, as_time, as_zone, as_reading};
 
 // Why a text is turned back.
-#[derive(Drop)]
+#[derive(Clone, Copy)]
 pub enum Fault {
     // 5: the text ends where a byte is needed.
     Short,
@@ -23,14 +25,14 @@ pub enum Fault {
 }
 
 // Four digits, or a sign and six.
-#[derive(Drop)]
+#[derive(Clone, Copy)]
 pub enum Year {
     Four(u32),
     Six { negative: bool, year: u32 },
 }
 
 // The year alone, to the month, or to the day.
-#[derive(Drop)]
+#[derive(Clone, Copy)]
 pub enum Date {
     ToYear,
     ToMonth(u32),
@@ -38,7 +40,7 @@ pub enum Date {
 }
 
 // To the minute, to the second, or with three decimals.
-#[derive(Drop)]
+#[derive(Clone, Copy)]
 pub enum Time {
     ToMinute {
         hour: u32,
@@ -58,7 +60,7 @@ pub enum Time {
 }
 
 // No zone, `Z`, a sign and an hour, or a sign, an hour and a minute.
-#[derive(Drop)]
+#[derive(Clone, Copy)]
 pub enum Zone {
     Absent,
     Zulu,
@@ -73,13 +75,13 @@ pub enum Zone {
     },
 }
 
-#[derive(Drop)]
+#[derive(Clone, Copy)]
 pub enum Form {
     Date(Year, Date),
     Timed(Year, Date, Time, Zone),
 }
 
-#[derive(Drop)]
+#[derive(Clone, Copy)]
 pub enum Parsed {
     Read(Form),
     Refused(Fault),
@@ -87,14 +89,14 @@ pub enum Parsed {
 
 // ---- numbers
 
-#[derive(Drop)]
+#[derive(Clone, Copy)]
 enum Digits {
     Value { value: u32, next: usize },
     Refused(Fault),
 }
 
 // Digits as a block, the first of them in the lowest byte.
-#[derive(Drop)]
+#[derive(Clone, Copy)]
 enum Block {
     Value { block: u64, next: usize },
     Refused(Fault),
@@ -197,7 +199,7 @@ fn read_field(text: &[u8], at: usize, low: u32, high: u32) -> Digits
 
 // ---- the year
 
-#[derive(Drop)]
+#[derive(Clone, Copy)]
 enum YearRead {
     Value(Year, usize),
     Refused(Fault),
@@ -259,7 +261,7 @@ fn is_sign(b: u8) -> bool
 
 // ---- the date
 
-#[derive(Drop)]
+#[derive(Clone, Copy)]
 enum DateRead {
     Value(Date, usize),
     Refused(Fault),
@@ -299,7 +301,7 @@ fn parse_month(text: &[u8], at: usize) -> DateRead
 
 // ---- the time
 
-#[derive(Drop)]
+#[derive(Clone, Copy)]
 enum TimeRead {
     Value(Time, usize),
     Refused(Fault),
@@ -385,7 +387,7 @@ fn parse_time(text: &[u8], at: usize) -> TimeRead
 
 // ---- the zone
 
-#[derive(Drop)]
+#[derive(Clone, Copy)]
 enum ZoneRead {
     Value(Zone, usize),
     Refused(Fault),

@@ -2,6 +2,8 @@
 //
 // The original makes the instant in f64. Here it is made in whole numbers and becomes an f64 at the end: the fields of a text are whole, and
 // its years go to ±999,999, where f64 sums would round. The day is calendar's, and the second of a local time local's.
+#![tactic(auto)]
+
 ghost use Rattle.std.specs.Prelude.{◌≡◌, ◌+◌, ◌-◌, ◌*◌, ◌≤◌, ◌<◌, pos, nat_abs};
 ghost use Rattle.ecma262.specs.Date.{make_day, make_date};
 ghost use Rattle.ecma262.specs.Format.{year_number, date_fields, time_fields, YearBounds, DateBounds, TimeBounds, ZoneBounds, Bounds};

@@ -1,5 +1,7 @@
 // Replays stored answers of the original: reads a case a line, calls our function, writes the answer line. The format is in differential/README.md;
 // README.md beside this says where stdin and stdout come from.
+#![tactic(auto)]
+
 ghost use Rattle.std.specs.Prelude.{◌≤◌};
 ghost use Rattle.io.specs.Counts.{IsPrefixLen};
 
@@ -146,7 +148,7 @@ fn print_unknown(tag: [u8; 4]) {
 // ---- the calls, by tag
 
 // What a call answers, where the tag names one.
-#[derive(Drop)]
+#[derive(Clone, Copy)]
 enum Called {
     Answer(Answer),
     No,

@@ -1,4 +1,6 @@
 // Rewriting: a text is read, and its instant's ISO text is written.
+#![tactic(auto)]
+
 ghost use Rattle.writer.specs.Outcome.{Leaves};
 ghost use Rattle.rewrite.specs.Rewrite.{rewrite_outcome};
 

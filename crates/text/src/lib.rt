@@ -1,18 +1,20 @@
 // The texts of dates, printed from whole-number fields into a lent output, in place.
+#![tactic(auto)]
+
 ghost use Rattle.std.specs.Prelude.{◌≡◌, [], ◌∷◌, ◌+◌, ◌≤◌, ◌<◌, length, nat_abs};
 ghost use Rattle.ecma262.specs.Digits.{digits};
 ghost use Rattle.ecma262.specs.Texts.{ascii, iso_year, iso_date, iso_time, iso_of, clock_of, day_name, month_name, padded_year, year_sign, signed_year, time_string_of, offset_sign, time_zone_string, utc_of, local_of, invalid_date};
 ghost use Rattle.text.specs.Inner.{Puts, Prints, whole_of, Printable, utc_head, local_head};
 
 // The number of bytes printed, or that the output is shorter than the text. Then it is as it was.
-#[derive(Drop)]
+#[derive(Clone, Copy)]
 pub enum Printed {
     Length(usize),
     NoRoom,
 }
 
 // Fields of a time, in the Rust's types. Month 0 is January, weekday 0 Sunday.
-#[derive(Drop)]
+#[derive(Clone, Copy)]
 pub struct DateFields {
     pub year: i32,
     pub month: u8,

@@ -1,10 +1,12 @@
 // `Peekable` in the Rust's `DateParser`: "a reader holding the lent text and the next index, thin, above plain functions". It is taken apart at
 // once, and the reading is done on the text and an index.
+#![tactic(auto)]
+
 ghost use Rattle.std.specs.Prelude.{◌≡◌, ◌≤◌, length, drop};
 ghost use Rattle.parser.specs.Reading.{read};
 ghost use Rattle.parser.specs.Inner.{as_reading};
 
-#[derive(Drop)]
+#[derive(Clone, Copy)]
 pub struct Reader<'a> {
     pub text: &'a [u8],
     pub at: usize,

@@ -1,8 +1,10 @@
 // Time values as they cross into the work: 64 bits that are a NaN's, a whole number of the range, or refused. Writers and setters take them so.
+#![tactic(auto)]
+
 ghost use Rattle.std.specs.Prelude.{◌≡◌};
 ghost use Rattle.timevalue.specs.TimeValue.{time_value_of};
 
-#[derive(Drop)]
+#[derive(Clone, Copy)]
 pub enum TimeValue {
     // A whole number in the range, never -0.
     Time(f64),

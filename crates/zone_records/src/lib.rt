@@ -1,10 +1,12 @@
 // The zone list as "a lent run of records, each a second and an offset": a slice of records, judged and searched as the bytes are, through the
 // same definitions.
+#![tactic(auto)]
+
 ghost use Rattle.std.specs.Prelude.{◌≡◌, ◌≤◌, take};
 ghost use Rattle.zone.specs.Zone.{IsZoneList, is_zone_list, offset_at};
 ghost use Rattle.zone_records.specs.Slice.{as_records};
 
-#[derive(Drop)]
+#[derive(Clone, Copy)]
 pub struct ZoneRecord {
     pub second: i64,
     pub offset: i32,

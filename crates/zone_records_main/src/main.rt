@@ -1,5 +1,7 @@
 // Judges the lists of records that stand in stdin, each as many records as two bytes say, and looks up seconds 2^30 apart in those that are
 // accepted: each offset is a line, and so is each refusal. README.md says where stdin and stdout come from.
+#![tactic(auto)]
+
 ghost use Rattle.std.specs.Prelude.{◌≤◌, take};
 ghost use Rattle.zone.specs.Zone.{IsZoneList};
 ghost use Rattle.zone_records.specs.Slice.{as_records};

@@ -1,5 +1,7 @@
 // The C functions of include/zovattha.h, and nothing else. A slice is a pointer and a length. None has a `requires`: any bits and any bytes
 // get an answer.
+#![tactic(auto)]
+
 ghost use Rattle.std.specs.Prelude.{◌≡◌, true, false, []};
 ghost use Rattle.answer.specs.Answer.{answer_of};
 ghost use Rattle.new_date.specs.declared.Part.TheVariants.{Milliseconds, Seconds, Minutes, Hours, Date, Month, FullYear};

@@ -1,0 +1,72 @@
+-- The table of the days before each month, by one test over its 24 entries; and the month and the date of a day of the year by that table,
+-- for every number of a day, also past the year's end. Assumes nothing.
+use mathlib.Core.Path.{◌≡◌, refl, sym, ap, ◌∙◌, subst}
+use mathlib.Core.Bool.{Bool, cond}
+use mathlib.Core.List.{List, [], ◌∷◌}
+use Prim.Native.Nat.{ℕ, suc, ◌+◌, ◌*◌, ◌-◌, ◌/◌, ◌≤◌, ◌<◌}
+use native.Mathlib.Nat.{le_trans}
+use native.Mathlib.Omega.{arith}
+use borrow.Author.Tests.{le-ltb}
+use lib.Dec.{eqb, eqb→eq, leb, leb→le, ltb, ltb→lt, nltb→le, lit≤, lit<}
+use lib.IntN.{pos, nat_abs}
+use lib.ListN.{length, get_or}
+use lib.Ieee.{Float, binary64, of_int}
+use Rattle.ecma262.specs.Date.{month_ends, first_after, days_before, month_of, date_of}
+use Rattle.integers.proofs.Int.{by-test, by_cond}
+use Rattle.integers.proofs.Table.{all, all-at}
+use Rattle.ecma262.proofs.Months.{each-month, date-from, month-from, month-small}
+use Rattle.calendar.specs.Calendar.{days_in_year_f, year_from_time_f, in_leap_year_f}
+
+unfoldable pub entries : List ℕ
+entries =
+    0 ∷ 31 ∷ 59 ∷ 90 ∷ 120 ∷ 151 ∷ 181 ∷ 212 ∷ 243 ∷ 273 ∷ 304 ∷ 334 ∷
+    0 ∷ 31 ∷ 60 ∷ 91 ∷ 121 ∷ 152 ∷ 182 ∷ 213 ∷ 244 ∷ 274 ∷ 305 ∷ 335 ∷ []
+
+-- twelve of a common year, then twelve of a leap year
+pub entry : (leap month : ℕ) → leap ≤ 1 → month < 12 → get_or entries (12 * leap + month) 0 ≡ days_before leap month
+unfolding entries days_before
+entry leap month h k = eqb→eq _ _ (each-month (λ l m. eqb (get_or entries (12 * l + m) 0) (days_before l m)) tt leap month h k)
+
+-- ---- the month of the day d of a year: d / 32 or the month after that, tested at each day up to the 351st
+pub month-by-32 : (leap d : ℕ) → leap ≤ 1 → d < 352 → month_of leap (pos d) ≡ cond (ltb d (days_before leap (d / 32 + 1))) (d / 32) (d / 32 + 1)
+unfolding month_of days_before
+month-by-32 leap d h k =
+    eqb→eq _ _ (all-at (f leap) 352 (all-at (λ l. all (f l) 352) 2 tt leap (omega arith)) d k)
+  where
+    f : ℕ → ℕ → Bool
+    f l d = eqb (month_of l (pos d)) (cond (ltb d (days_before l (d / 32 + 1))) (d / 32) (d / 32 + 1))
+
+-- a day that no month before December ends after
+past-each : (ends : List ℕ) (d : ℕ) → ((i : ℕ) → i < length ends → get_or ends i 0 ≤ d) → first_after ends (pos d) ≡ length ends
+past-each [] d h = refl
+past-each (end ∷ ends) d h = ap (λ b. cond b 0 (suc (first_after ends (pos d)))) (le-ltb d end (h 0 (omega arith))) ∙ ap suc (past-each ends d (λ i l. h (suc i) (omega arith)))
+
+-- from the 335th day on it is December, also of a number past the year's end
+pub month-late : (leap d : ℕ) → leap ≤ 1 → 335 ≤ d → month_of leap (pos d) ≡ 11
+unfolding month_of
+month-late leap d h k = past-each (month_ends leap) d (λ i l. le_trans (leb→le _ _ (all-at (f leap) 11 (all-at (λ l. all (f l) 11) 2 tt leap (omega arith)) i l)) k)
+  where
+    f : ℕ → ℕ → Bool
+    f l i = leb (get_or (month_ends l) i 0) 335
+
+-- the month that month_of says starts by the day d, for every d
+pub month-by-then : (leap d : ℕ) → leap ≤ 1 → (days_before leap (month_of leap (pos d)) ≤ d) × (month_of leap (pos d) < 12)
+unfolding days_before
+month-by-then leap d h =
+    by-test (ltb d (365 + leap))
+    (λ c. let k : d < 365 + leap = ltb→lt d (365 + leap) c in (month-from leap d h k, month-small leap d h k))
+    (λ c. let k : 365 + leap ≤ d = nltb→le d (365 + leap) c in
+    subst (λ m. (days_before leap m ≤ d) × (m < 12)) (sym (month-late leap d h (omega arith))) (omega arith, lit< tt))
+
+-- in_leap_year is 0 or 1
+pub leap-flag : (t : Float) → in_leap_year_f t ≤ 1
+unfolding in_leap_year_f
+leap-flag t = by_cond (λ n. n ≤ 1) (eqb (days_in_year_f (of_int binary64 (year_from_time_f t))) 366) 1 0 (λ _. lit≤ tt) (λ _. lit≤ tt)
+
+-- the date, as the code has it: of the month m and the days b before it
+pub date-number : (leap d m b : ℕ) → leap ≤ 1 → m ≡ month_of leap (pos d) → b ≡ days_before leap m
+    → (b ≤ d) × (m < 12) × (nat_abs (date_of leap (pos d) (month_of leap (pos d))) ≡ d - b + 1)
+date-number leap d m b h e f =
+    let w = month-by-then leap d h in
+    let g : b ≡ days_before leap (month_of leap (pos d)) = f ∙ ap (days_before leap) e in
+    (omega (arith, w.0), omega (arith, w.1), ap nat_abs (date-from leap d (month_of leap (pos d)) w.0) ∙ omega (arith, w.0))

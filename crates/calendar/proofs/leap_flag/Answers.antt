@@ -1,0 +1,51 @@
+-- `calendar::leap_flag` meets its contract: of a near year by the rule in whole numbers, else by the days of the year. Assumes nothing.
+use borrow.Author.Rules.{rules}
+use mathlib.Core.Path.{◌≡◌, sym, ap, subst, ◌∙◌}
+use mathlib.Core.Bool.{cond}
+use Prim.Native.Nat.{ℕ, ◌≤◌}
+use native.Mathlib.Omega.{arith}
+use borrow.Author.Tests.{eq-eqb, ne_eqb}
+use lib.Dec.{eqb}
+use lib.IntN.{ℤ, nat_abs}
+use lib.Ieee.{binary64, of_int}
+use mir.Syntax.{w32}
+use mir.Val.{to_z, of_z}
+use Rattle.integers.proofs.Machine.{kept}
+use Rattle.ecma262.specs.Date.{leap_of}
+use Rattle.ecma262.proofs.Leap.{leap-small}
+use Rattle.calendar.specs.Calendar.{days_in_year_f, leap_f}
+use Rattle.calendar.proofs.Quick.{near_within}
+use Rattle.calendar.proofs.Step.{as-64}
+use Rattle.calendar.proofs.Whole.{leap-whole}
+use Rattle.calendar.proofs.leap_flag.Goals as goal
+use Rattle.calendar.proofs.leap_flag.Goals.{After-days_in_year, After-leap, Then-is_near}
+
+near : (c : Then-is_near) → nat_abs c.args.year ≤ 280_001
+near c =
+    subst (λ (z : ℤ). nat_abs z ≤ 280001) (kept c.ranges.year) (near_within (to_z w32 (of_z w32 c.args.year)) c.is_near.ensures c.if-is_near.true)
+
+rule : (c : After-leap) → c.leap.result ≡ leap_of c.args.year
+rule c = c.leap.ensures ∙ ap leap_of (as-64 c.ranges.year).1
+
+pub overflow_cast-year : goal.overflow_cast-year
+overflow_cast-year c = (as-64 c.ranges.year).0
+
+pub leap-requires : goal.leap-requires
+leap-requires c = omega (arith, ap nat_abs (as-64 c.ranges.year).1, near c)
+
+pub overflow_cast-result : goal.overflow_cast-result
+overflow_cast-result c = record { fits = omega (arith, rule c, leap-small c.args.year) }
+
+pub returns-then-is_near : goal.returns-then-is_near
+returns-then-is_near c = rule c ∙ sym (leap-whole c.args.year (omega (arith, near c.before)))
+
+-- 366 days, by the test of the days that days_in_year gave
+days : (c : After-days_in_year) → cond (eqb c.days_in_year.result 366) 1 0 ≡ leap_f c.args.year
+days c =
+    ap (λ (n : ℕ). cond (eqb n 366) 1 0) (c.days_in_year.ensures ∙ ap (λ (z : ℤ). days_in_year_f (of_int binary64 z)) (kept c.ranges.year))
+
+pub returns-then-days_in_year-eq366 : goal.returns-then-days_in_year-eq366
+returns-then-days_in_year-eq366 c = ap (λ b. cond b 1 0) (sym (eq-eqb c.days_in_year.result 366 c.if-days_in_year-eq366.true)) ∙ days (goal.at.returns-then-days_in_year-eq366 c).After-days_in_year
+
+pub returns-else-days_in_year-eq366 : goal.returns-else-days_in_year-eq366
+returns-else-days_in_year-eq366 c = ap (λ b. cond b 1 0) (sym (ne_eqb c.days_in_year.result 366 c.if-days_in_year-eq366.false)) ∙ days (goal.at.returns-else-days_in_year-eq366 c).After-days_in_year

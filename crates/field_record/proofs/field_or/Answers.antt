@@ -1,0 +1,54 @@
+-- `field_record::field_or` meets its contract: a field that stands is read at its place, and the next one's place follows it. Assumes nothing.
+use borrow.Author.Rules.{rules}
+use mathlib.Core.Path.{◌≡◌, sym, ap, ◌∙◌}
+use Prim.Native.Nat.{◌/◌, ◌%◌, ◌^◌}
+use native.Mathlib.Omega.{arith}
+use lib.Ieee.{binary64, of_bits}
+use Rattle.little_endian.specs.Bytes.{little_endian}
+use Rattle.field_record.specs.FieldRecord.{map_of, field_at}
+use Rattle.field_record.proofs.Laws.{right-length, place-absent, place-given, place-room, bit-absent, bit-given, field-absent, field-given}
+use Rattle.field_record.proofs.field_or.Goals as goal
+use Rattle.field_record.proofs.field_or.Goals.{Else-from-eq0}
+
+-- the bit that was tested stands
+stand : (c : Else-from-eq0) → let a = c.args in map_of a.fields.now / 2 ^ a.bit % 2 ≡ 1
+stand c = omega (arith, c.if-from-eq0.false)
+
+pub bounds-fields-0 : goal.bounds-fields-0
+bounds-fields-0 c = omega (arith, right-length _ c.requires.filled)
+
+-- NO GOAL overflow-cast-from
+cast-from : tie.Need-overflow-cast-from
+cast-from c = record { fits = omega (arith, c.shared-slice-known2.given 0) }
+
+pub overflow_shr-from : goal.overflow_shr-from
+overflow_shr-from c = omega arith
+
+pub returns-then-from-eq0 : goal.returns-then-from-eq0
+returns-then-from-eq0 c =
+    let a = c.args in
+    record {
+      given_is = sym (bit-absent a.fields.now a.bit c.if-from-eq0.true);
+      value-is = sym (field-absent a.fields.now a.bit a.absent c.if-from-eq0.true);
+      next-is = c.requires.place ∙ sym (place-absent a.fields.now a.bit c.if-from-eq0.true);
+    }
+
+pub u64_at-requires : goal.u64_at-requires
+u64_at-requires c =
+    omega (arith, c.requires.place, place-room c.args.fields.now c.args.bit c.requires.filled (stand c))
+
+pub overflow_add-result : goal.overflow_add-result
+overflow_add-result c =
+    record { fits = omega (arith, c.requires.place, place-room c.args.fields.now c.args.bit c.requires.filled (stand c.before.before)) }
+
+pub returns : goal.returns
+unfolding field_at
+returns c =
+    let a = c.args in
+    record {
+      given_is = sym (bit-given a.fields.now a.bit (stand c.before.before));
+      value-is =
+          c.of_bits.ensures ∙ ap (of_bits binary64) (c.u64_at.ensures ∙ ap (little_endian 8 a.fields.now) c.requires.place)
+          ∙ sym (field-given a.fields.now a.bit a.absent (stand c.before.before));
+      next-is = omega (arith, c.requires.place, place-given a.fields.now a.bit (stand c.before.before));
+    }

@@ -1,0 +1,42 @@
+-- `make::make_time` meets its contract: a finite sum has only finite terms, and for any other sum the arguments are tested. Assumes nothing.
+use borrow.Author.Rules.{rules}
+use mathlib.Core.Path.{◌≡◌, sym, ap, ◌∙◌}
+use mathlib.Core.Logic.{⊎_elim}
+use lib.Ieee.{of_bits, of_int}
+use lib.Ieee.Scale.{finite}
+use Rattle.float.proofs.Special.{made-nan}
+use Rattle.make.specs.Make.{whole_part, join_time}
+use Rattle.make.proofs.Tests.{off, on, hour-not-finite, minute-not-finite, second-not-finite, milli-not-finite, make-time-finite, make-time-sum}
+use Rattle.make.proofs.make_time.Goals as goal
+use Rattle.make.proofs.make_time.Goals.{After-whole_part-milli}
+
+-- the sum, of the whole parts
+summed : (c : After-whole_part-milli) → let a = c.args in
+    join_time c.whole_part-h.result c.whole_part-m.result c.whole_part-s.result c.whole_part-milli.result
+    ≡ join_time (whole_part a.hour) (whole_part a.min) (whole_part a.sec) (whole_part a.ms)
+summed c =
+    λ i. join_time (c.whole_part-h.ensures i) (c.whole_part-m.ensures i) (c.whole_part-s.ensures i) (c.whole_part-milli.ensures i)
+
+pub returns-then-is_finite : goal.returns-then-is_finite
+unfolding of_bits of_int
+returns-then-is_finite c =
+    let a = c.args in
+    summed c.before.before ∙ sym (make-time-sum a.hour a.min a.sec a.ms (ap finite (sym (summed c.before.before)) ∙ sym c.is_finite.ensures ∙ c.if-is_finite.true))
+
+pub returns-then-not-is_finite : goal.returns-then-not-is_finite
+returns-then-not-is_finite c =
+    let a = c.args in
+    made-nan
+    ∙ sym (⊎_elim (λ w. hour-not-finite a.hour a.min a.sec a.ms (off c.is_finite-2.ensures w.taken))
+    (⊎_elim (λ w. minute-not-finite a.hour a.min a.sec a.ms (off w.1.ensures w.2.taken))
+    (⊎_elim (λ w. second-not-finite a.hour a.min a.sec a.ms (off w.3.ensures w.4.taken))
+    (λ w. milli-not-finite a.hour a.min a.sec a.ms (off w.5.ensures w.6.taken))))
+    c.then-not-is_finite.branch)
+
+pub returns : goal.returns
+unfolding of_bits of_int
+returns c =
+    let a = c.args in
+    summed c.before.before.before.before.before.before.before.before.before.before
+    ∙ sym (make-time-finite a.hour a.min a.sec a.ms (on c.is_finite-2.ensures c.if-not-is_finite.false) (on c.is_finite-else-not-is_finite.ensures c.if-not-is_finite-2.false)
+    (on c.is_finite-else-not-is_finite-2.ensures c.if-not-is_finite-3.false) (on c.is_finite-else-not-is_finite-3.ensures c.if-not-is_finite-4.false))
