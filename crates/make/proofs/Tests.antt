@@ -15,11 +15,11 @@ and-false true e = e
 and-false false e = refl
 
 -- the answer r of a test f, and a branch on `!r`
-pub off : {r f : Bool} → r ≡ f → not r ≡ true → f ≡ false
-off {r} e t = sym e ∙ not-true r t
+pub off : {r f : Bool} → r ≡ f → r ≡ false → f ≡ false
+off e t = sym e ∙ t
 
-pub on : {r f : Bool} → r ≡ f → not r ≡ false → f ≡ true
-on {r} e t = sym e ∙ not-false r t
+pub on : {r f : Bool} → r ≡ f → r ≡ true → f ≡ true
+on e t = sym e ∙ t
 
 -- ---- MakeTime
 module _ (h m s ms : Float) where

@@ -17,10 +17,6 @@ stand c = omega (arith, c.if-from-eq0.false)
 pub bounds-fields-0 : goal.bounds-fields-0
 bounds-fields-0 c = omega (arith, right-length _ c.requires.filled)
 
--- NO GOAL overflow-cast-from
-cast-from : tie.Need-overflow-cast-from
-cast-from c = record { fits = omega (arith, c.shared-slice-known2.given 0) }
-
 pub overflow_shr-from : goal.overflow_shr-from
 overflow_shr-from c = omega arith
 
@@ -35,20 +31,20 @@ returns-then-from-eq0 c =
 
 pub u64_at-requires : goal.u64_at-requires
 u64_at-requires c =
-    omega (arith, c.requires.place, place-room c.args.fields.now c.args.bit c.requires.filled (stand c))
+    omega (arith, c.requires.place, place-room c.args.fields.now c.args.bit c.requires.filled (stand (goal.at.u64_at-requires c).Else-from-eq0))
 
 pub overflow_add-result : goal.overflow_add-result
 overflow_add-result c =
-    record { fits = omega (arith, c.requires.place, place-room c.args.fields.now c.args.bit c.requires.filled (stand c.before.before)) }
+    record { fits = omega (arith, c.requires.place, place-room c.args.fields.now c.args.bit c.requires.filled (stand (goal.at.overflow_add-result c).Else-from-eq0)) }
 
 pub returns : goal.returns
 unfolding field_at
 returns c =
     let a = c.args in
     record {
-      given_is = sym (bit-given a.fields.now a.bit (stand c.before.before));
+      given_is = sym (bit-given a.fields.now a.bit (stand (goal.at.returns c).Else-from-eq0));
       value-is =
           c.of_bits.ensures ∙ ap (of_bits binary64) (c.u64_at.ensures ∙ ap (little_endian 8 a.fields.now) c.requires.place)
-          ∙ sym (field-given a.fields.now a.bit a.absent (stand c.before.before));
-      next-is = omega (arith, c.requires.place, place-given a.fields.now a.bit (stand c.before.before));
+          ∙ sym (field-given a.fields.now a.bit a.absent (stand (goal.at.returns c).Else-from-eq0));
+      next-is = omega (arith, c.requires.place, place-given a.fields.now a.bit (stand (goal.at.returns c).Else-from-eq0));
     }

@@ -8,10 +8,6 @@ use Rattle.field_record.proofs.has_other_bit.Goals as goal
 pub bounds-fields-0 : goal.bounds-fields-0
 bounds-fields-0 c = omega (arith, right-length _ c.requires.0)
 
--- NO GOAL overflow-cast-above
-cast-above : tie.Need-overflow-cast-above
-cast-above c = record { fits = omega (arith, c.shared-slice-known.given 0) }
-
 pub overflow_shr-above : goal.overflow_shr-above
 overflow_shr-above c = omega arith
 

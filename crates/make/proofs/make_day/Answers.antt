@@ -29,6 +29,7 @@ use Rattle.make.proofs.Tests.{off, on, year-not-finite, month-not-finite, date-n
 use Rattle.make.proofs.Parts.{part-whole, Within, within, part-within, month-small}
 use Rattle.make.proofs.Exact.{make-day-int, month-within-exact}
 use Rattle.make.proofs.make_day.Goals as goal
+use Rattle.make.proofs.make_day.Goals.{then-not-is_finite-via-then-not-is_finite, then-not-is_finite-via-else-not-is_finite+then-not-is_finite-2, then-not-is_finite-via-else-not-is_finite+else-not-is_finite-2+then-not-is_finite-3}
 use Rattle.make.proofs.make_day.Goals.{After-day_number, After-exact_i64, After-exact_i64-mn, After-exact_i64-then-is_within-3, After-whole_part-dt, Else-not-is_finite-2, Start, Then-is_within-3}
 
 -- ---- a field x whose whole part p passed its test r, and p as an integer
@@ -52,19 +53,19 @@ module _ (c : Then-is_within-3) where
   year-in : Within s.args.year (neg_ℤ (pos 280_000)) (pos 280_000)
   unfolding of_bits of_int
   year-in =
-      passed at.before.before.whole_part.ensures (true-T (fits binary64 s.args.year) s.good.0.1) (neg-whole (num-whole 280000 (lit≤ tt))) (num-whole 280000 (lit≤ tt))
-      c.is_Within.ensures c.if-is_within.true
+      passed c.whole_part-y.ensures (true-T (fits binary64 s.args.year) s.well_formed.0.1) (neg-whole (num-whole 280000 (lit≤ tt))) (num-whole 280000 (lit≤ tt))
+      c.is_within.ensures c.if-is_within.true
 
   month-in : Within s.args.month (pos 0) (pos 11)
   unfolding of_bits of_int
   month-in =
-      passed at.before.whole-part2.ensures (true-T (fits binary64 s.args.month) s.good.1.0.1) (num-whole 0 (lit≤ tt)) (num-whole 11 (lit≤ tt))
+      passed c.whole_part-m.ensures (true-T (fits binary64 s.args.month) s.well_formed.1.0.1) (num-whole 0 (lit≤ tt)) (num-whole 11 (lit≤ tt))
       c.is_within-then-is_within.ensures c.if-is_within-2.true
 
   date-in : Within s.args.date (neg_ℤ (pos 1_000_000)) (pos 1_000_000)
   unfolding of_bits of_int
   date-in =
-      passed at.whole-part3.ensures (true-T (fits binary64 s.args.date) s.good.1.1.0.1) (neg-whole (num-whole 1000000 (lit≤ tt))) (num-whole 1000000 (lit≤ tt))
+      passed c.whole_part-dt.ensures (true-T (fits binary64 s.args.date) s.well_formed.1.1.0.1) (neg-whole (num-whole 1000000 (lit≤ tt))) (num-whole 1000000 (lit≤ tt))
       c.is_within-then-is_within-2.ensures c.if-is_within-3.true
 
   year-size : nat_abs (trunc_z s.args.year) ≤ 280_000
@@ -86,15 +87,15 @@ module _ (c : Then-is_within-3) where
 -- ---- the integers
 month-read : (c : After-exact_i64-mn) → to_z w64 (of_z w64 c.exact_i64-mn.result) ≡ trunc_z (s c.before).args.month
 month-read c =
-    given (at c.before).before.whole-part2.ensures (month-in c.before) (omega (arith, month-size c.before)) c.exact_i64-mn.ensures (record { sfits = c.exact_i64-mn.type_inv })
+    given c.whole_part-m.ensures (month-in c.before) (omega (arith, month-size c.before)) c.exact_i64-mn.ensures (record { sfits = c.exact_i64-mn.type_inv })
 
 year-read : (c : After-exact_i64) → to_z w64 (of_z w64 c.exact_i64.result) ≡ trunc_z (s c.before.before).args.year
 year-read c =
-    given (at c.before.before).before.before.whole_part.ensures (year-in c.before.before) (omega (arith, year-size c.before.before)) c.exact_i64.ensures (record { sfits = c.exact_i64.type_inv })
+    given c.whole_part-y.ensures (year-in c.before.before) (omega (arith, year-size c.before.before)) c.exact_i64.ensures (record { sfits = c.exact_i64.type_inv })
 
 date-read : (c : After-exact_i64-then-is_within-3) → to_z w64 (of_z w64 c.exact_i64-then-is_within-3.result) ≡ trunc_z (s c.before.before.before).args.date
 date-read c =
-    given (at c.before.before.before).whole-part3.ensures (date-in c.before.before.before) (date-size c.before.before.before) c.exact_i64-then-is_within-3.ensures (record { sfits = c.exact_i64-then-is_within-3.type_inv })
+    given c.whole_part-dt.ensures (date-in c.before.before.before) (date-size c.before.before.before) c.exact_i64-then-is_within-3.ensures (record { sfits = c.exact_i64-then-is_within-3.type_inv })
 
 day-read : (c : After-day_number) → let a = (s c.before.before.before.before).args in
     to_z w64 (of_z w64 c.day_number.result) ≡ make_day (trunc_z a.year) (trunc_z a.month) (trunc_z a.date)
@@ -103,7 +104,7 @@ day-read c =
     kept {w = w64} (record { sfits = c.day_number.type_inv }) ∙ c.day_number.ensures ∙ (λ i. make_day (year-read c.before.before i) (own i) (date-read c.before i))
 
 pub exact_i64-mn-requires : goal.exact_i64-mn-requires
-exact_i64-mn-requires c = taken (at c).before.whole-part2.ensures (month-in c) (omega (arith, month-size c))
+exact_i64-mn-requires c = taken c.whole_part-m.ensures (month-in c) (omega (arith, month-size c))
 
 pub overflow_cast-mn : goal.overflow_cast-mn
 overflow_cast-mn c =
@@ -111,11 +112,11 @@ overflow_cast-mn c =
 
 pub exact_i64-requires : goal.exact_i64-requires
 exact_i64-requires c =
-    taken (at c.before).before.before.whole_part.ensures (year-in c.before) (omega (arith, year-size c.before))
+    taken c.whole_part-y.ensures (year-in c.before) (omega (arith, year-size c.before))
 
 pub exact_i64-requires-then-is_within-3 : goal.exact_i64-requires-then-is_within-3
 exact_i64-requires-then-is_within-3 c =
-    taken (at c.before.before).whole-part3.ensures (date-in c.before.before) (date-size c.before.before)
+    taken c.whole_part-dt.ensures (date-in c.before.before) (date-size c.before.before)
 
 pub day_number-requires : goal.day_number-requires
 day_number-requires c =
@@ -138,10 +139,13 @@ pub returns-then-not-is_finite : goal.returns-then-not-is_finite
 returns-then-not-is_finite c =
     let a = c.args in
     made-nan
-    ∙ sym (⊎_elim (λ w. year-not-finite a.year a.month a.date (off c.is_finite.ensures w.taken))
-    (⊎_elim (λ w. month-not-finite a.year a.month a.date (off w.1.ensures w.2.taken))
-    (λ w. date-not-finite a.year a.month a.date (off w.3.ensures w.4.taken)))
-    c.then-not-is_finite.branch)
+    ∙ sym (elim c.then-not-is_finite.branch [
+      then-not-is_finite-via-then-not-is_finite w ↦ year-not-finite a.year a.month a.date (off c.is_finite.ensures w.if-not-is_finite.true)
+    | then-not-is_finite-via-else-not-is_finite+then-not-is_finite-2 w ↦
+        month-not-finite a.year a.month a.date (off w.is_finite-else-not-is_finite.ensures w.if-not-is_finite-2.true)
+    | then-not-is_finite-via-else-not-is_finite+else-not-is_finite-2+then-not-is_finite-3 w ↦
+        date-not-finite a.year a.month a.date (off w.is_finite-else-not-is_finite-2.ensures w.if-not-is_finite-3.true)
+    ])
 
 -- ---- the steps in f64, of finite fields
 month-finite : (c : Else-not-is_finite-2) → finite c.args.month ≡ true

@@ -8,6 +8,7 @@ use Rattle.float.proofs.Special.{made-nan}
 use Rattle.make.specs.Make.{whole_part, join_time}
 use Rattle.make.proofs.Tests.{off, on, hour-not-finite, minute-not-finite, second-not-finite, milli-not-finite, make-time-finite, make-time-sum}
 use Rattle.make.proofs.make_time.Goals as goal
+use Rattle.make.proofs.make_time.Goals.{then-not-is_finite-via-then-not-is_finite, then-not-is_finite-via-else-not-is_finite+then-not-is_finite-2, then-not-is_finite-via-else-not-is_finite+else-not-is_finite-2+then-not-is_finite-3, then-not-is_finite-via-else-not-is_finite+else-not-is_finite-2+else-not-is_finite-3+then-not-is_finite-4}
 use Rattle.make.proofs.make_time.Goals.{After-whole_part-milli}
 
 -- the sum, of the whole parts
@@ -27,11 +28,15 @@ pub returns-then-not-is_finite : goal.returns-then-not-is_finite
 returns-then-not-is_finite c =
     let a = c.args in
     made-nan
-    ∙ sym (⊎_elim (λ w. hour-not-finite a.hour a.min a.sec a.ms (off c.is_finite-2.ensures w.taken))
-    (⊎_elim (λ w. minute-not-finite a.hour a.min a.sec a.ms (off w.1.ensures w.2.taken))
-    (⊎_elim (λ w. second-not-finite a.hour a.min a.sec a.ms (off w.3.ensures w.4.taken))
-    (λ w. milli-not-finite a.hour a.min a.sec a.ms (off w.5.ensures w.6.taken))))
-    c.then-not-is_finite.branch)
+    ∙ sym (elim c.then-not-is_finite.branch [
+      then-not-is_finite-via-then-not-is_finite w ↦ hour-not-finite a.hour a.min a.sec a.ms (off c.is_finite-2.ensures w.if-not-is_finite.true)
+    | then-not-is_finite-via-else-not-is_finite+then-not-is_finite-2 w ↦
+        minute-not-finite a.hour a.min a.sec a.ms (off w.is_finite-else-not-is_finite.ensures w.if-not-is_finite-2.true)
+    | then-not-is_finite-via-else-not-is_finite+else-not-is_finite-2+then-not-is_finite-3 w ↦
+        second-not-finite a.hour a.min a.sec a.ms (off w.is_finite-else-not-is_finite-2.ensures w.if-not-is_finite-3.true)
+    | then-not-is_finite-via-else-not-is_finite+else-not-is_finite-2+else-not-is_finite-3+then-not-is_finite-4 w ↦
+        milli-not-finite a.hour a.min a.sec a.ms (off w.is_finite-else-not-is_finite-3.ensures w.if-not-is_finite-4.true)
+    ])
 
 pub returns : goal.returns
 unfolding of_bits of_int

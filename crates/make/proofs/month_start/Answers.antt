@@ -10,15 +10,17 @@ use Rattle.ecma262.specs.Date.{days_before}
 use Rattle.calendar.specs.Calendar.{num, day_from_year_f}
 use Rattle.make.specs.Make.{rest, month_start_f}
 use Rattle.make.proofs.month_start.Goals as goal
-use Rattle.make.proofs.month_start.Goals.{Joined-mn-gt1}
+use Rattle.make.proofs.month_start.Goals.{then-mn-gt1, else-mn-gt1, Joined-mn-gt1}
 
 -- 1 past February
 passed : (c : Joined-mn-gt1) → c.if-mn-gt1.rest ≡ num (rest c.args.mn)
 unfolding of_bits of_int
 passed c =
     let mn = c.args.mn in
-    ⊎_elim (λ w. w.1 ∙ ap (λ b. num (cond b 1 0)) (sym (lt-ltb 1 mn w.0.taken))) (λ w. w.1 ∙ ap (λ b. num (cond b 1 0)) (sym (le-ltb 1 mn w.0.left)))
-    c.if-mn-gt1.branch
+    elim c.if-mn-gt1.branch [
+      then-mn-gt1 w ↦ w.rest-is ∙ ap (λ b. num (cond b 1 0)) (sym (lt-ltb 1 mn w.if-mn-gt1.true))
+    | else-mn-gt1 w ↦ w.rest-is ∙ ap (λ b. num (cond b 1 0)) (sym (le-ltb 1 mn w.if-mn-gt1.false))
+    ]
 
 -- the month's start by its parts
 started : (ym : Float) (mn : ℕ) (r d : Float) (n : ℕ) → r ≡ num (rest mn) → d ≡ day_from_year_f (add binary64 ym r) → n ≡ days_before 0 mn

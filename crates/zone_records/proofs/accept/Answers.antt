@@ -56,9 +56,9 @@ use Rattle.zone_records.specs.contracts.ZoneRecord as T
 use Rattle.zone_records.proofs.ZoneRecord.TheLaws as T'
 use Rattle.zone_records.specs.contracts.accept.Key.{name as #zone-records·accept}
 use Rattle.zone_records.specs.contracts.accept as f
-use Rattle.zone_records.proofs.accept.Statement as stated
 use Rattle.zone_records.proofs.accept.Code as code
 use Rattle.zone_records.proofs.accept.Code.Mir as pieces
+use None.Goals as goal
 
 abbrev Arg : Type 0
 Arg = Bor (List ZoneRecord) × Unit {0}
@@ -228,10 +228,3 @@ module _ {M : Type 1} {𝓤 : Ura M} (𝓛 : Logic 𝓤) (mem : Memory → SProp
 accept-meets : {M : Type 1} {𝓤 : Ura M} (𝓛 : Logic 𝓤) → (mem : Memory → SProp 𝓤) (run : Routine → Fun 𝓤) (𝓣 : Tables 𝓤 𝓛.H)
     → Meets 𝓛 f.signature (WpFn 𝓤 𝓛.H 𝓣.C 𝓣.Λ code.function) (f.spec 𝓛 mem run)
 accept-meets {𝓤 = 𝓤} 𝓛 mem run 𝓣 = walk_Meets 𝓛 f.ended stayed (Goes-none_slice 𝓛 1 (0 ∷ []) tt (plain (λ _. T.the_row)) yes, tt) (f.clauses 𝓛 mem run) (WpFn 𝓤 𝓛.H 𝓣.C 𝓣.Λ code.function) (WpFn-mono 𝓤 𝓛.H 𝓛.laws 𝓣 code.function) (accept-walks 𝓛 mem run 𝓣)
-
-pub accept-spec : {M : Type 1} → stated.statement M
-unfolding code.routine tables_of
-accept-spec 𝓤 𝓛 𝓜 𝓡 =
-    entered 𝓤 𝓛.H (triple_of 𝓛 f.signature (f.spec 𝓛 𝓜.mem 𝓡.run))
-    (tables 𝓤 𝓛.H 𝓜 𝓡 code.env).C (tables 𝓤 𝓛.H 𝓜 𝓡 code.env).Λ #zone-records·accept code.function (code.unfolded 𝓤 𝓛.H 𝓜 𝓡)
-    (accept-meets 𝓛 𝓜.mem 𝓡.run (tables_of 𝓤 𝓛.H 𝓜 (tables 𝓤 𝓛.H 𝓜 𝓡 code.env)))

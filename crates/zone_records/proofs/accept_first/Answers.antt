@@ -32,7 +32,6 @@ use denote.Ref.{Bor}
 use denote.Slice.{slice_val, ShrSlice}
 use denote.Steps.{owned, peeks, heard, nothing}
 use denote.Struct.Laws as LL
-use denote.Triple.Statement.{Contract, Triple}
 use denote.Triple.Call.{calls_at}
 use denote.Triple.Entry.{Vals, on_entry}
 use denote.Triple.Spec.{Meets, triple_of}
@@ -52,8 +51,8 @@ use Rattle.zone_records.proofs.accept.Symbol.{name as #zone-records·accept}
 use Rattle.zone_records.proofs.accept.Met as accept-thm
 use Rattle.zone_records.specs.contracts.accept_first.Key.{name as #zone-records·accept-first}
 use Rattle.zone_records.specs.contracts.accept_first as f
-use Rattle.zone_records.proofs.accept_first.Statement as stated
 use Rattle.zone_records.proofs.accept_first.Code as code
+use None.Goals as goal
 
 abbrev stayed : Stays (f.ended).signature.params (f.ended).kept
 stayed = (stay_none (λ _. All) yes, (stay_none (λ _. usize) yes, tt))
@@ -95,7 +94,7 @@ module _ {M : Type 1} {𝓤 : Ura M} (𝓛 : Logic 𝓤) (mem : Memory → SProp
     abbrev to-accept : (Accept 𝓛 mem run).Ghost
     to-accept = (((ν ∷ [], tt), (full_share, tt), tt, (s, tt), passed), tt)
 
-    goes-accept : ent 𝓤 (⋆ 𝓛 (‵ ((ShrSlice (named 0) (ν ∷ []) T.the_row).own_val s (slice_val (l, 0) n ∷ [])) ∷ ‵ (flft (ν ∷ []) full_share) ∷ [])) ((Accept 𝓛 mem run).pre to-accept)
+    goes-accept : ent 𝓤 (⋆ 𝓛 (‵ ((ShrSlice (named 0) (ν ∷ []) T.the_row).own_val s (slice_val (l, 0) n ∷ [])) ∷ ‵ (flft (ν ∷ []) full_share) ∷ [])) ((Accept 𝓛 mem run).requires to-accept)
     goes-accept =
         qed 𝓛 (‵ ((ShrSlice (named 0) (ν ∷ []) T.the_row).own_val s (slice_val (l, 0) n ∷ [])) ∷ ‵ (flft (ν ∷ []) full_share) ∷ []) ∵
         nothing ! $ move ! (2 ∷ 0 ∷ []) $ join ! $ nothing ! $ move ! (2 ∷ 0 ∷ []) $ fjoin ! $ move ! (1 ∷ 0 ∷ []) $ join ! $ frame ! $ done !
@@ -117,7 +116,7 @@ module _ {M : Type 1} {𝓤 : Ura M} (𝓛 : Logic 𝓤) (mem : Memory → SProp
         assigns ! (agg ! (and_then ! (load ! (from ! (stop !)) (look ! 2 refl)) (and_then ! (load ! (from ! (stop !)) (look ! 6 refl)) (no_more !)))) (from ! (stop !)) (init ! 0 refl (tt, (tt, (record { fits = gn }, tt)))) $
         move ! (4 ∷ []) $ lends_first ! tt zs is_all n few l₃ (λ ν γ.
         -- [the slice; what is lent; the token; the rest; _5; …; _4; …; (_3's right to be freed); _2; …; _1; …; room for _0; …]
-        move ! (0 ∷ 2 ∷ []) $ use2 𝓛 (raw ((Accept 𝓛 mem run).pre (to-accept ν l₃ γ))) (goes-accept ν l₃ γ) $
+        move ! (0 ∷ 2 ∷ []) $ use2 𝓛 (raw ((Accept 𝓛 mem run).requires (to-accept ν l₃ γ))) (goes-accept ν l₃ γ) $
         calls_at ! fm (Accept 𝓛 mem run) known (to-accept ν l₃ γ) (and_then ! (load ! (from ! (stop !)) (look ! 3 refl)) (no_more !)) (λ u.
         use1 𝓛 (later (some (λ (z : Bool). ((‵ (flft (ν ∷ []) full_share) ⊛ ‵ ftrue) ⊛ ‵ (bool.own_val z (u ∷ []))) ⊛ raw (ensured 𝓛 accept.ended (accept.clauses 𝓛 mem run) (ν ∷ [], tt) (s ν l₃ γ, tt) tt z)))) (id⊢ 𝓤 _) $ await ! tt $ pick ! (λ z.
         split ! $ move ! (1 ∷ []) $ use1 𝓛 (raw (fact 𝓤 (Found ν l₃ γ z))) (said ν l₃ γ z) $ heard ! (Found ν l₃ γ z) (λ e. split ! $ move ! (1 ∷ []) $
@@ -143,11 +142,3 @@ accept-first-meets : {M : Type 1} {𝓤 : Ura M} (𝓛 : Logic 𝓤) (mem : Memo
     → Triple 𝓤 (𝓣.C #zone-records·accept) (Accept 𝓛 mem run) → Meets 𝓛 f.signature (WpFn 𝓤 𝓛.H 𝓣.C 𝓣.Λ code.function) (f.spec 𝓛 mem run)
 accept-first-meets {𝓤 = 𝓤} 𝓛 mem run 𝓣 known = walk_Meets 𝓛 f.ended stayed (Goes-none 𝓛 0 (λ _. All) yes (λ κs x f. refl), (Goes-none 𝓛 0 (λ _. usize) yes (λ κs x f. refl), tt)) (f.clauses 𝓛 mem run) (WpFn 𝓤 𝓛.H 𝓣.C 𝓣.Λ code.function) (WpFn-mono 𝓤 𝓛.H 𝓛.laws 𝓣 code.function)
     (accept-first-walks 𝓛 mem run 𝓣.C 𝓣.Λ (fm_of 𝓤 𝓛.H 𝓛.laws 𝓣) known)
-
-pub accept-first-spec : {M : Type 1} → stated.statement M
-unfolding code.routine tables_of
-accept-first-spec 𝓤 𝓛 𝓜 𝓡 =
-    entered 𝓤 𝓛.H (triple_of 𝓛 f.signature (f.spec 𝓛 𝓜.mem 𝓡.run))
-    (tables 𝓤 𝓛.H 𝓜 𝓡 code.env).C (tables 𝓤 𝓛.H 𝓜 𝓡 code.env).Λ #zone-records·accept-first code.function (code.unfolded 𝓤 𝓛.H 𝓜 𝓡)
-    (accept-first-meets 𝓛 𝓜.mem 𝓡.run (tables_of 𝓤 𝓛.H 𝓜 (tables 𝓤 𝓛.H 𝓜 𝓡 code.env))
-    (cited 𝓤 𝓛.H (Accept 𝓛 𝓜.mem 𝓡.run) 𝓜 𝓡 code.env #zone-records·accept accept-def.routine code.calls-zone-records::accept (accept-thm.met 𝓤 𝓛 𝓜 𝓡)))

@@ -35,7 +35,6 @@ use denote.Signed.{sint_vals, sint_Tells, sint_Makes, sint_Lawful}
 use denote.Slice.{slice_val, ShrSlice}
 use denote.Steps.{owned, peeks, heard, nothing}
 use denote.Struct.Laws as LL
-use denote.Triple.Statement.{Contract, Triple}
 use denote.Triple.Call.{calls_at}
 use denote.Triple.Entry.{Vals, on_entry}
 use denote.Triple.Spec.{Meets, triple_of}
@@ -55,8 +54,8 @@ use Rattle.zone_records.proofs.lookup.Symbol.{name as #zone-records·lookup}
 use Rattle.zone_records.proofs.lookup.Met as lookup-thm
 use Rattle.zone_records.specs.contracts.lookup_first.Key.{name as #zone-records·lookup-first}
 use Rattle.zone_records.specs.contracts.lookup_first as f
-use Rattle.zone_records.proofs.lookup_first.Statement as stated
 use Rattle.zone_records.proofs.lookup_first.Code as code
+use None.Goals as goal
 
 abbrev stayed : Stays (f.ended).signature.params (f.ended).kept
 stayed = (stay_none (λ _. All) yes, (stay_none (λ _. usize) yes, (stay_none (λ _. i64) yes, tt)))
@@ -98,7 +97,7 @@ module _ {M : Type 1} {𝓤 : Ura M} (𝓛 : Logic 𝓤) (mem : Memory → SProp
     abbrev to-lookup : (Lookup 𝓛 mem run).Ghost
     to-lookup = (((ν ∷ [], tt), (full_share, tt), tt, (s, (t, tt)), passed), tt)
 
-    goes-lookup : IsZoneList (as_records ys) → ent 𝓤 (⋆ 𝓛 (‵ ((ShrSlice (named 0) (ν ∷ []) T.the_row).own_val s (slice_val (l, 0) n ∷ [])) ∷ ‵ (flft (ν ∷ []) full_share) ∷ [])) ((Lookup 𝓛 mem run).pre to-lookup)
+    goes-lookup : IsZoneList (as_records ys) → ent 𝓤 (⋆ 𝓛 (‵ ((ShrSlice (named 0) (ν ∷ []) T.the_row).own_val s (slice_val (l, 0) n ∷ [])) ∷ ‵ (flft (ν ∷ []) full_share) ∷ [])) ((Lookup 𝓛 mem run).requires to-lookup)
     goes-lookup r =
         qed 𝓛 (‵ ((ShrSlice (named 0) (ν ∷ []) T.the_row).own_val s (slice_val (l, 0) n ∷ [])) ∷ ‵ (flft (ν ∷ []) full_share) ∷ []) ∵ says ! r $
         nothing ! $ move ! (2 ∷ 0 ∷ []) $ join ! $ frame ! $ nothing ! $ owned ! i64 (Is i64) (sint_Makes 𝓛 w64) t _ (refl, gt) $ fjoin ! $ move ! (1 ∷ 0 ∷ []) $ fjoin ! $ done !
@@ -120,7 +119,7 @@ module _ {M : Type 1} {𝓤 : Ura M} (𝓛 : Logic 𝓤) (mem : Memory → SProp
         assigns ! (agg ! (and_then ! (load ! (from ! (stop !)) (look ! 2 refl)) (and_then ! (load ! (from ! (stop !)) (look ! 8 refl)) (no_more !)))) (from ! (stop !)) (init ! 0 refl (tt, (tt, (record { fits = gn }, tt)))) $
         move ! (4 ∷ []) $ lends_first ! tt zs is_all n few l₄ (λ ν γ.
         -- [the slice; what is lent; the token; the rest; _6; …; _5; …; (_4's right to be freed); _3; …; _2; …; _1; …; room for _0; …]
-        move ! (0 ∷ 2 ∷ []) $ use2 𝓛 (raw ((Lookup 𝓛 mem run).pre (to-lookup ν l₄ γ))) (goes-lookup ν l₄ γ rule) $
+        move ! (0 ∷ 2 ∷ []) $ use2 𝓛 (raw ((Lookup 𝓛 mem run).requires (to-lookup ν l₄ γ))) (goes-lookup ν l₄ γ rule) $
         calls_at ! fm (Lookup 𝓛 mem run) known (to-lookup ν l₄ γ) (and_then ! (load ! (from ! (stop !)) (look ! 3 refl)) (and_then ! (load ! (from ! (stop !)) (look ! 8 refl)) (no_more !))) (λ u.
         use1 𝓛 (later (some (λ (z : ℤ). ((‵ (flft (ν ∷ []) full_share) ⊛ ‵ ftrue) ⊛ ‵ (i32.own_val z (u ∷ []))) ⊛ raw (ensured 𝓛 lookup.ended (lookup.clauses 𝓛 mem run) (ν ∷ [], tt) (s ν l₄ γ, (t, tt)) tt z)))) (id⊢ 𝓤 _) $ await ! tt $ pick ! (λ z.
         split ! $ move ! (1 ∷ []) $ use1 𝓛 (raw (fact 𝓤 (Found ν l₄ γ z))) (said ν l₄ γ z) $ heard ! (Found ν l₄ γ z) (λ e. split ! $ move ! (1 ∷ []) $
@@ -146,11 +145,3 @@ lookup-first-meets : {M : Type 1} {𝓤 : Ura M} (𝓛 : Logic 𝓤) (mem : Memo
     → Triple 𝓤 (𝓣.C #zone-records·lookup) (Lookup 𝓛 mem run) → Meets 𝓛 f.signature (WpFn 𝓤 𝓛.H 𝓣.C 𝓣.Λ code.function) (f.spec 𝓛 mem run)
 lookup-first-meets {𝓤 = 𝓤} 𝓛 mem run 𝓣 known = walk_Meets 𝓛 f.ended stayed (Goes-none 𝓛 0 (λ _. All) yes (λ κs x f. refl), (Goes-none 𝓛 0 (λ _. usize) yes (λ κs x f. refl), (Goes-none 𝓛 0 (λ _. i64) yes (λ κs x f. refl), tt))) (f.clauses 𝓛 mem run) (WpFn 𝓤 𝓛.H 𝓣.C 𝓣.Λ code.function) (WpFn-mono 𝓤 𝓛.H 𝓛.laws 𝓣 code.function)
     (lookup-first-walks 𝓛 mem run 𝓣.C 𝓣.Λ (fm_of 𝓤 𝓛.H 𝓛.laws 𝓣) known)
-
-pub lookup-first-spec : {M : Type 1} → stated.statement M
-unfolding code.routine tables_of
-lookup-first-spec 𝓤 𝓛 𝓜 𝓡 =
-    entered 𝓤 𝓛.H (triple_of 𝓛 f.signature (f.spec 𝓛 𝓜.mem 𝓡.run))
-    (tables 𝓤 𝓛.H 𝓜 𝓡 code.env).C (tables 𝓤 𝓛.H 𝓜 𝓡 code.env).Λ #zone-records·lookup-first code.function (code.unfolded 𝓤 𝓛.H 𝓜 𝓡)
-    (lookup-first-meets 𝓛 𝓜.mem 𝓡.run (tables_of 𝓤 𝓛.H 𝓜 (tables 𝓤 𝓛.H 𝓜 𝓡 code.env))
-    (cited 𝓤 𝓛.H (Lookup 𝓛 𝓜.mem 𝓡.run) 𝓜 𝓡 code.env #zone-records·lookup lookup-def.routine code.calls-zone-records::lookup (lookup-thm.met 𝓤 𝓛 𝓜 𝓡)))

@@ -55,9 +55,9 @@ use Rattle.zone_records.specs.contracts.ZoneRecord as T
 use Rattle.zone_records.proofs.ZoneRecord.TheLaws as T'
 use Rattle.zone_records.specs.contracts.lookup.Key.{name as #zone-records·lookup}
 use Rattle.zone_records.specs.contracts.lookup as f
-use Rattle.zone_records.proofs.lookup.Statement as stated
 use Rattle.zone_records.proofs.lookup.Code as code
 use Rattle.zone_records.proofs.lookup.Code.Mir as pieces
+use None.Goals as goal
 
 abbrev Arg : Type 0
 Arg = Bor (List ZoneRecord) × (ℤ × Unit {0})
@@ -235,10 +235,3 @@ module _ {M : Type 1} {𝓤 : Ura M} (𝓛 : Logic 𝓤) (mem : Memory → SProp
 lookup-meets : {M : Type 1} {𝓤 : Ura M} (𝓛 : Logic 𝓤) → (mem : Memory → SProp 𝓤) (run : Routine → Fun 𝓤) (𝓣 : Tables 𝓤 𝓛.H)
     → Meets 𝓛 f.signature (WpFn 𝓤 𝓛.H 𝓣.C 𝓣.Λ code.function) (f.spec 𝓛 mem run)
 lookup-meets {𝓤 = 𝓤} 𝓛 mem run 𝓣 = walk_Meets 𝓛 f.ended stayed (Goes-none_slice 𝓛 1 (0 ∷ []) tt (plain (λ _. T.the_row)) yes, (Goes-none 𝓛 1 (λ _. i64) yes (λ κs x f. refl), tt)) (f.clauses 𝓛 mem run) (WpFn 𝓤 𝓛.H 𝓣.C 𝓣.Λ code.function) (WpFn-mono 𝓤 𝓛.H 𝓛.laws 𝓣 code.function) (lookup-walks 𝓛 mem run 𝓣)
-
-pub lookup-spec : {M : Type 1} → stated.statement M
-unfolding code.routine tables_of
-lookup-spec 𝓤 𝓛 𝓜 𝓡 =
-    entered 𝓤 𝓛.H (triple_of 𝓛 f.signature (f.spec 𝓛 𝓜.mem 𝓡.run))
-    (tables 𝓤 𝓛.H 𝓜 𝓡 code.env).C (tables 𝓤 𝓛.H 𝓜 𝓡 code.env).Λ #zone-records·lookup code.function (code.unfolded 𝓤 𝓛.H 𝓜 𝓡)
-    (lookup-meets 𝓛 𝓜.mem 𝓡.run (tables_of 𝓤 𝓛.H 𝓜 (tables 𝓤 𝓛.H 𝓜 𝓡 code.env)))

@@ -1,0 +1,16 @@
+-- `local::local_time` meets its contract. Assumes nothing.
+use borrow.Author.Rules.{rules}
+use mathlib.Core.Path.{ap, ◌∙◌}
+use lib.IntN.{ℤ}
+use lib.Ieee.{binary64, add, mul, of_bits, of_int}
+use mir.Syntax.{w32}
+use Rattle.integers.proofs.Machine.{kept}
+use Rattle.calendar.specs.Calendar.{num}
+use Rattle.local.specs.Local.{local_time_f}
+use Rattle.local.proofs.local_time.Goals as goal
+
+pub returns : goal.returns
+unfolding local_time_f of_bits of_int
+returns c =
+    let o = c.local_timezone_offset_seconds in
+    ap (λ (z : ℤ). add binary64 c.args.t (mul binary64 (of_int binary64 z) (num 1000))) (kept {w = w32} (record { sfits = o.type_inv }) ∙ o.ensures)

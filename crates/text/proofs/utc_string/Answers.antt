@@ -1,0 +1,53 @@
+-- `text::utc_string` meets its contract: head, year, space and time stand one behind the other. Assumes nothing.
+use mathlib.Core.List.{append_assoc}
+use mathlib.Core.Path.{◌≡◌, refl, ap, ◌∙◌}
+use Prim.Native.Nat.{◌+◌}
+use native.Mathlib.Omega.{arith}
+use lib.ListN.{length}
+use borrow.Author.Rules.{rules}
+use Rattle.ecma262.proofs.Texts.{length-utc}
+use Rattle.ecma262.specs.Texts.{signed_year}
+use Rattle.text.specs.Inner.{whole_of}
+use Rattle.text.proofs.Runs.{puts-as, puts_then, prints-none, prints-whole}
+use Rattle.text.proofs.Sign.{at-fitting, year-fits, puts-fitting}
+use Rattle.text.proofs.utc_string.Goals as goal
+use Rattle.text.proofs.utc_string.Goals.{After-signed_length-n}
+
+year-length : (b : After-signed_length-n) → length (signed_year b.args.f.year) ≡ b.signed_length-n.result
+year-length b = at-fitting (λ y. length (signed_year y) ≡ b.signed_length-n.result) (year-fits _ b.requires.year-ok) b.signed_length-n.ensures.0
+
+pub signed_length-n-requires : goal.signed_length-n-requires
+signed_length-n-requires c = omega arith
+
+pub overflow_add-length : goal.overflow_add-length
+overflow_add-length c = omega arith
+
+pub returns-then-output-length : goal.returns-then-output-length
+returns-then-output-length c =
+    prints-none (length-utc (whole_of c.args.f) c.requires.weekday-ok c.requires.month-ok ∙ ap (λ n. n + 25) (year-length (goal.at.returns-then-output-length c).After-signed_length-n)) c.if-output-length.true refl
+
+pub put_utc_head-requires : goal.put_utc_head-requires
+put_utc_head-requires c = omega arith
+
+pub overflow_add-n : goal.overflow_add-n
+overflow_add-n c = omega arith
+
+pub put-requires : goal.put-requires
+put-requires c = omega arith
+
+pub overflow_add-n-2 : goal.overflow_add-n-2
+overflow_add-n-2 c = omega arith
+
+pub time_string-requires : goal.time_string-requires
+time_string-requires c = omega arith
+
+pub returns : goal.returns
+returns c =
+    let b = (goal.at.returns c).After-signed_length-n in
+    let s = b.before.before.before in
+    let n = year-length b in
+    prints-whole
+    (puts-as
+    (puts_then
+    (puts_then (puts_then c.put_utc_head.ensures (puts-fitting signed_year (year-fits s.args.f.year s.requires.year-ok) c.put_signed_year.ensures) refl) c.put.ensures (omega (arith, n)))
+    c.time_string.ensures (omega (arith, n))) (simp append_assoc)) (omega (arith, n)) (omega arith)
