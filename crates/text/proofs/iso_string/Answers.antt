@@ -36,8 +36,7 @@ put_iso_time-requires c = omega arith
 
 pub returns : goal.returns
 returns c =
-    let s = (goal.at.returns c).Start in
     prints-whole
     (puts_then
-    (puts_then (puts-fitting iso_year (year-fits _ s.requires.year-ok) c.put_iso_year.ensures) c.put_iso_date.ensures (omega (arith, year-length (goal.at.returns c).After-iso_year_length-n)))
+    (puts_then (puts-fitting iso_year (year-fits _ c.requires.year-ok) c.put_iso_year.ensures) c.put_iso_date.ensures (omega (arith, year-length (goal.at.returns c).After-iso_year_length-n)))
     c.put_iso_time.ensures (omega (arith, year-length (goal.at.returns c).After-iso_year_length-n))) (omega (arith, year-length (goal.at.returns c).After-iso_year_length-n)) (omega arith)

@@ -46,13 +46,10 @@ overflow_add-n-3 c = omega arith
 
 pub returns : goal.returns
 returns c =
-    let h = (goal.at.returns c).After-put_local_head in
-    let b = h.before.before.before in
-    let s = b.before.before.before in
-    let n = year-length b in
+    let n = year-length (goal.at.returns c).After-signed_length-n in
     prints-whole
     (puts-as
     (puts_then
     (puts_then
-    (puts_then (puts_then h.put-local-head.ensures (puts-fitting signed_year (year-fits s.args.f.year s.requires.0.year-ok) c.put_signed_year.ensures) refl) c.put.ensures (omega (arith, n)))
-    c.time_string.ensures (omega (arith, n))) (zone-put s.ranges.offset c.time_zone_string.ensures) (omega (arith, n))) (simp append_assoc)) (omega (arith, n)) (omega arith)
+    (puts_then (puts_then c.put_local_head.ensures (puts-fitting signed_year (year-fits c.args.f.year c.requires.0.year-ok) c.put_signed_year.ensures) refl) c.put.ensures (omega (arith, n)))
+    c.time_string.ensures (omega (arith, n))) (zone-put c.ranges.offset c.time_zone_string.ensures) (omega (arith, n))) (simp append_assoc)) (omega (arith, n)) (omega arith)

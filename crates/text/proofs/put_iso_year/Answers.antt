@@ -28,19 +28,15 @@ pad_six-requires-else-y-lt10000 c =
 
 pub returns-then-year-lt0 : goal.returns-then-year-lt0
 returns-then-year-lt0 c =
-    let s = c.before.before.before.before.before.before.before.before.before.before.before in
     puts-own (puts_then c.put.ensures c.pad_six.ensures refl)
-    (rw (abs-of s.ranges.year c.unsigned_abs-y.ensures) (iso-below s.args.year (below-zero s.ranges.year c.if-year-lt0.true)))
+    (rw (abs-of c.ranges.year c.unsigned_abs-y.ensures) (iso-below c.args.year (below-zero c.ranges.year c.if-year-lt0.true)))
 
 pub returns-then-y-lt10000 : goal.returns-then-y-lt10000
 returns-then-y-lt10000 c =
-    let s = c.before.before.before.before.before.before.before.before in
     puts-own c.pad_four.ensures
-    (rw (abs-of s.ranges.year c.unsigned_abs-y.ensures) (iso-four s.args.year (from_zero s.ranges.year c.if-year-lt0.false) (omega (arith, abs-of s.ranges.year c.unsigned_abs-y.ensures))))
+    (rw (abs-of c.ranges.year c.unsigned_abs-y.ensures) (iso-four c.args.year (from_zero c.ranges.year c.if-year-lt0.false) (omega (arith, abs-of c.ranges.year c.unsigned_abs-y.ensures))))
 
 pub returns-else-y-lt10000 : goal.returns-else-y-lt10000
 returns-else-y-lt10000 c =
-    let u = c.before.before.before.before.before.before.before.before.before.before in
-    let s = u.before.before in
     puts-own (puts_then c.put-else-y-lt10000.ensures c.pad_six-else-y-lt10000.ensures refl)
-    (rw (abs-of s.ranges.year u.unsigned_abs.ensures) (iso-above s.args.year (from_zero s.ranges.year c.if-year-lt0.false) (omega (arith, abs-of s.ranges.year u.unsigned_abs.ensures))))
+    (rw (abs-of c.ranges.year c.unsigned_abs-y.ensures) (iso-above c.args.year (from_zero c.ranges.year c.if-year-lt0.false) (omega (arith, abs-of c.ranges.year c.unsigned_abs-y.ensures))))

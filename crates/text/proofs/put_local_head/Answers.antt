@@ -28,9 +28,8 @@ put-requires-2 c = omega arith
 
 pub returns : goal.returns
 returns c =
-    let d = c.before.before.before.before.before.before.before.before.before.before.before.before.before.before.before.before.before.before.before in
     puts-as
     (puts_then
     (puts_then
-    (puts_then (puts_then (puts-as d.put-name.ensures d.before.before.day-name.ensures) c.put.ensures refl) (puts-as c.put_name-2.ensures c.month_name.ensures) refl)
+    (puts_then (puts_then (puts-as c.put_name.ensures c.day_name.ensures) c.put.ensures refl) (puts-as c.put_name-2.ensures c.month_name.ensures) refl)
     c.put_two.ensures refl) c.put-2.ensures refl) (simp append_assoc)

@@ -22,4 +22,4 @@ put-requires-3 c = omega arith
 
 pub returns : goal.returns
 returns c =
-    puts-as (puts_then (puts_then c.put.ensures c.put-2.ensures refl) c.put-3.ensures refl) (sym (three c.args.t1 c.well_formed.0.1.0.1))
+    puts-as (puts_then (puts_then c.put.ensures c.put-2.ensures refl) c.put-3.ensures refl) (sym (three c.args.name c.well_formed.0.1.0.1))

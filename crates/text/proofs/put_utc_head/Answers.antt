@@ -31,11 +31,9 @@ put-requires-3 c = omega arith
 
 pub returns : goal.returns
 returns c =
-    let p = c.before.before.before.before.before.before.before.before.before.before.before.before.before.before.before.before.before.before.before in
-    let d = p.before.before.before.before in
     puts-as
     (puts_then
     (puts_then
     (puts_then
-    (puts_then (puts_then (puts-as d.put-name.ensures d.before.before.day-name.ensures) p.put.ensures refl) c.put_two.ensures refl) c.put-2.ensures refl)
+    (puts_then (puts_then (puts-as c.put_name.ensures c.day_name.ensures) c.put.ensures refl) c.put_two.ensures refl) c.put-2.ensures refl)
     (puts-as c.put_name-2.ensures c.month_name.ensures) refl) c.put-3.ensures refl) (simp append_assoc)

@@ -38,9 +38,7 @@ pad_two-requires-2 c = omega arith
 
 pub returns : goal.returns
 returns c =
-    let u = c.before.before.before.before.before.before.before.before.before.before.before.before.before in
-    let s = u.before.before in
     puts-as
     (puts_then
-    (puts_then (puts-as c.put.ensures (at-fitting (λ z. c.offset_sign.result ∷ [] ≡ offset_sign z) s.ranges.offset c.offset_sign.ensures)) c.pad_two.ensures refl) c.pad_two-2.ensures refl)
-    (zone-text s.args.offset s.requires.0 (abs-of s.ranges.offset u.unsigned_abs.ensures))
+    (puts_then (puts-as c.put.ensures (at-fitting (λ z. c.offset_sign.result ∷ [] ≡ offset_sign z) c.ranges.offset c.offset_sign.ensures)) c.pad_two.ensures refl) c.pad_two-2.ensures refl)
+    (zone-text c.args.offset c.requires.0 (abs-of c.ranges.offset c.unsigned_abs-seconds.ensures))

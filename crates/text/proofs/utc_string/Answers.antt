@@ -43,11 +43,9 @@ time_string-requires c = omega arith
 
 pub returns : goal.returns
 returns c =
-    let b = (goal.at.returns c).After-signed_length-n in
-    let s = b.before.before.before in
-    let n = year-length b in
+    let n = year-length (goal.at.returns c).After-signed_length-n in
     prints-whole
     (puts-as
     (puts_then
-    (puts_then (puts_then c.put_utc_head.ensures (puts-fitting signed_year (year-fits s.args.f.year s.requires.year-ok) c.put_signed_year.ensures) refl) c.put.ensures (omega (arith, n)))
+    (puts_then (puts_then c.put_utc_head.ensures (puts-fitting signed_year (year-fits c.args.f.year c.requires.year-ok) c.put_signed_year.ensures) refl) c.put.ensures (omega (arith, n)))
     c.time_string.ensures (omega (arith, n))) (simp append_assoc)) (omega (arith, n)) (omega arith)
