@@ -1,0 +1,13 @@
+-- `few_digits` reads as the definition does. The loop keeps a run: i digits are read, their number and the next place. Assumes nothing.
+use Prim.Native.Nat.{◌-◌}
+use borrow.Author.Rules.{rules}
+use native.Mathlib.Omega.{arith}
+use Rattle.parser.proofs.Runs.{Run, run_none, run-below, runs}
+use Rattle.parser.proofs.few_digits.Given as goal
+
+abbrev pub invariant-loop-i : goal.invariant-loop-i
+invariant-loop-i l = Run l.text l.at l.n l.i l.value l.next
+
+abbrev pub decreases-loop-i : goal.decreases-loop-i
+decreases-loop-i l = l.n - l.i
+-- LOOPS [[["loop", "loop-i"], ["text", "at", "n", "value", "next", "i"]]]

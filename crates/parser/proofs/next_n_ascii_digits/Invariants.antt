@@ -1,0 +1,12 @@
+-- `next_n_ascii_digits` gathers the digits that the definition reads. The loop keeps their block, one byte more at each turn. Assumes nothing.
+use Prim.Native.Nat.{◌-◌}
+use borrow.Author.Rules.{rules}
+use Rattle.parser.proofs.Runs.{Gathered, gathered_none, gathered-room, runs, gathers}
+use Rattle.parser.proofs.next_n_ascii_digits.Given as goal
+
+abbrev pub invariant-loop-i : goal.invariant-loop-i
+invariant-loop-i l = Gathered l.text l.at l.n l.i l.block l.next
+
+abbrev pub decreases-loop-i : goal.decreases-loop-i
+decreases-loop-i l = l.n - l.i
+-- LOOPS [[["loop", "loop-i"], ["text", "at", "n", "block", "next", "i"]]]

@@ -1,0 +1,21 @@
+-- `parse_decimals` reads as the definition does: the steps' laws, in the order of the code. Assumes nothing.
+use borrow.Author.Rules.{rules}
+use Rattle.parser.specs.Reading.{read_decimals}
+use Rattle.parser.proofs.Steps.{steps}
+use Rattle.parser.proofs.parse_decimals.Goals as goal
+
+pub returns-then-text-at : goal.returns-then-text-at
+unfolding read_decimals
+returns-then-text-at c = search (rules, steps)
+
+pub returns-then-text-at-ne46 : goal.returns-then-text-at-ne46
+unfolding read_decimals
+returns-then-text-at-ne46 c = search (rules, steps)
+
+pub returns-in-Refused : goal.returns-in-Refused
+unfolding read_decimals
+returns-in-Refused c = search (rules, steps)
+
+pub returns-in-Value : goal.returns-in-Value
+unfolding read_decimals
+returns-in-Value c = search (rules, steps)

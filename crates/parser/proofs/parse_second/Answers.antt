@@ -1,0 +1,21 @@
+-- `parse_second` reads as the definition does: the steps' laws, in the order of the code. Assumes nothing.
+use borrow.Author.Rules.{rules}
+use Rattle.parser.specs.Reading.{read_second}
+use Rattle.parser.proofs.Steps.{steps}
+use Rattle.parser.proofs.parse_second.Goals as goal
+
+pub returns-then-text-at : goal.returns-then-text-at
+unfolding read_second
+returns-then-text-at c = search (rules, steps)
+
+pub returns-then-text-at-ne58 : goal.returns-then-text-at-ne58
+unfolding read_second
+returns-then-text-at-ne58 c = search (rules, steps)
+
+pub returns-in-Refused : goal.returns-in-Refused
+unfolding read_second
+returns-in-Refused c = search (rules, steps)
+
+pub returns-in-Value : goal.returns-in-Value
+unfolding read_second
+returns-in-Value c = search (rules, steps)
