@@ -1,0 +1,33 @@
+-- `writer::to_string` meets its contract. Assumes nothing.
+use borrow.Author.Rules.{rules}
+use borrow.Author.Tests.{not-true, not-false}
+use mathlib.Core.Path.{◌≡◌, sym, ◌∙◌}
+use mathlib.Core.Bool.{true}
+use Rattle.zone.specs.Zone.{accepts}
+use Rattle.zone.proofs.Rule.{accepts-sound}
+use Rattle.writer.proofs.Given.{refused-leaves, list-refused, local-given, time-is}
+use Rattle.writer.proofs.to_string.Goals as goal
+use Rattle.writer.proofs.to_string.Goals.{Else-not-accept}
+
+-- past the first test the list is accepted
+accepted : (c : Else-not-accept) → accepts c.args.zone.now ≡ true
+accepted c = sym c.accept.ensures ∙ c.if-not-accept.false
+
+pub returns-then-not-accept : goal.returns-then-not-accept
+returns-then-not-accept c = list-refused _ _ _ (sym c.accept.ensures ∙ c.if-not-accept.true)
+
+pub to_date_string_t-requires : goal.to_date_string_t-requires
+to_date_string_t-requires c =
+    (time-is _ c.time_value.ensures c.in-Time.is, accepts-sound _ (accepted (goal.at.to_date_string_t-requires c).Else-not-accept))
+
+pub returns-in-Refused : goal.returns-in-Refused
+returns-in-Refused c =
+    local-given _ (accepted (goal.at.returns-in-Refused c).Else-not-accept) _ _ c.time_value.ensures c.in-Refused.is refused-leaves
+
+pub returns-in-Nan : goal.returns-in-Nan
+returns-in-Nan c =
+    local-given _ (accepted (goal.at.returns-in-Nan c).Else-not-accept) _ _ c.time_value.ensures c.in-Nan.is c.write_invalid.ensures
+
+pub returns-in-Time : goal.returns-in-Time
+returns-in-Time c =
+    local-given _ (accepted (goal.at.returns-in-Time c).Else-not-accept) _ _ c.time_value.ensures c.in-Time.is c.to_date_string_t.ensures

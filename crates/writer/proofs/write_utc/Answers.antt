@@ -1,0 +1,15 @@
+-- `writer::write_utc` meets its contract. Assumes nothing.
+use borrow.Author.Rules.{rules}
+use mathlib.Core.Path.{◌∙◌, ap}
+use Prim.Native.Nat.{ℕ}
+use Rattle.writer.specs.Inner.{replied}
+use Rattle.writer.proofs.Written.{prints-leaves, prints-as, fields-printable, utc-of-time}
+use Rattle.writer.proofs.write_utc.Goals as goal
+
+pub utc_string-printed-requires : goal.utc_string-printed-requires
+utc_string-printed-requires c = fields-printable c.date_fields.ensures c.requires.shown
+
+pub returns : goal.returns
+returns c =
+    prints-leaves _ (prints-as (utc-of-time c.date_fields.ensures) c.utc_string-printed.ensures)
+    (c.reply.ensures ∙ ap (λ (v : ℕ). replied v c.utc_string-printed.result) c.bits_of.ensures)
