@@ -63,3 +63,9 @@ returns c =
     ∙ ap (λ (x : Float). to_bits binary64 (value_out a.local (records a.zone.now) x))
     (c.set.ensures
     ∙ ap (λ (x : Float). new_date_of (set a.first) x a.fields.now) (c.start_of-t.ensures ∙ ap (start_of a.local (records a.zone.now)) c.time_value-date.ensures))))
+
+pub start_of-t-requires : goal.start_of-t-requires
+start_of-t-requires c = past-list (goal.at.start_of-t-requires c).Else-is_refused
+
+pub value_of-requires : goal.value_of-requires
+value_of-requires c = past-list (goal.at.value_of-requires c).Else-is_refused

@@ -47,7 +47,7 @@ pub returns-then-t-gt8640000000000000 : goal.returns-then-t-gt8640000000000000
 returns-then-t-gt8640000000000000 c = answer-beyond (t c.before.before) (above (t c.before.before) (lt-true c.if-t-gt8640000000000000.true)) ∙ same c.before.before
 
 pub int_to_float-t : goal.int_to_float-t
-int_to_float-t c = int-in-float (t c.before.before.before) (omega (arith, within c.before))
+int_to_float-t c = int-in-float (t c.before.before.before.before) (omega (arith, within c.before.before))
 
 pub returns : goal.returns
 returns c = ap Time c.bits_of.ensures ∙ answer-inside (t c.before.before.before.before) (within c.before.before) ∙ same c.before.before.before.before

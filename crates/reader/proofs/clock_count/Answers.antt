@@ -4,7 +4,7 @@ use native.Mathlib.Omega.{arith}
 use Rattle.reader.proofs.clock_count.Goals as goal
 
 pub clock-requires : goal.clock-requires
-clock-requires c = let p = rw c.t-1.given.1 at c.requires in (omega (arith, p.hour-to), omega (arith, p.minute-to), omega (arith, p.second-to), omega (arith, p.ms-to))
+clock-requires c = let p = rw c.in-ToMinute.is at c.requires in (omega (arith, p.hour-to), omega (arith, p.minute-to), omega (arith, p.second-to), omega (arith, p.ms-to))
 
 pub clock-requires-in-ToSecond : goal.clock-requires-in-ToSecond
 clock-requires-in-ToSecond c = let p = rw c.in-ToSecond.is at c.requires in (omega (arith, p.hour-to), omega (arith, p.minute-to), omega (arith, p.second-to), omega (arith, p.ms-to))

@@ -17,37 +17,37 @@ use Rattle.reader.specs.Denotes.{less_offset, instant_of}
 use Rattle.reader.proofs.instant_of.Goals as goal
 use Rattle.reader.proofs.instant_of.Goals.{After-fields_time-in-Timed, In-Timed}
 
-bounds : (c : In-Timed) → YearBounds (as_year c.form-in-Timed-1.given.0.0) × DateBounds (as_date c.form-in-Timed-1.given.0.1.0)
-    × TimeBounds (as_time c.form-in-Timed-1.given.0.1.1.0) × ZoneBounds (as_zone c.form-in-Timed-1.given.0.1.1.1.0)
-bounds c = rw c.form-in-Timed-1.given.1 at c.requires.1
+bounds : (c : In-Timed) → YearBounds (as_year c.in-Timed.y) × DateBounds (as_date c.in-Timed.d)
+    × TimeBounds (as_time c.in-Timed.t) × ZoneBounds (as_zone c.in-Timed.z)
+bounds c = rw c.in-Timed.is at c.requires.1
 
 handed : (c : After-fields_time-in-Timed) → to_z w64 (of_z w64 c.fields_time-in-Timed.result) ≡ c.fields_time-in-Timed.result
 handed c = kept {w = w64} (record { sfits = c.fields_time-in-Timed.type_inv })
 
 -- the time within the day is MakeTime of its fields
-time : (c : After-fields_time-in-Timed) → let f = c.form-in-Timed-1.given.0 in c.fields_time-in-Timed.result ≡ time_of (fields (as_year f.0) (as_date f.1.0) (as_time f.1.1.0))
+time : (c : After-fields_time-in-Timed) → let f = c.in-Timed in c.fields_time-in-Timed.result ≡ time_of (fields (as_year f.y) (as_date f.d) (as_time f.t))
 time c =
-    let f = c.form-in-Timed-1.given.0 in
-    let x = fields (as_year f.0) (as_date f.1.0) (as_time f.1.1.0) in
+    let f = c.in-Timed in
+    let x = fields (as_year f.y) (as_date f.d) (as_time f.t) in
     c.fields_time-in-Timed.ensures.0
     ∙ ap (make_date (make_day x.year (pos x.month) (pos x.date))) (ap pos c.clock_count-time.ensures.0 ∙ sym (make-time x.hour x.minute x.second x.ms))
 
 pub fields_time-requires : goal.fields_time-requires
 fields_time-requires c =
-    let b : YearBounds (as_year c.form-1.given.0.0) × DateBounds (as_date c.form-1.given.0.1.0) = rw c.form-1.given.1 at c.requires.1 in
+    let b : YearBounds (as_year c.in-Date.y) × DateBounds (as_date c.in-Date.d) = rw c.in-Date.is at c.requires.1 in
     (b.0, b.1, lit< tt)
 
 pub clock_count-time-requires : goal.clock_count-time-requires
-clock_count-time-requires c = (bounds c).2
+clock_count-time-requires c = (bounds (goal.at.clock_count-time-requires c).In-Timed).2
 
 pub fields_time-requires-in-Timed : goal.fields_time-requires-in-Timed
-fields_time-requires-in-Timed c = let b = bounds c.before in (b.0, b.1, omega (arith, c.clock_count-time.ensures.1))
+fields_time-requires-in-Timed c = let b = bounds (goal.at.fields_time-requires-in-Timed c).In-Timed in (b.0, b.1, omega (arith, c.clock_count-time.ensures.1))
 
 pub less_zone-requires : goal.less_zone-requires
 less_zone-requires c = (
   c.requires.0,
-  subst (λ (z : ℤ). nat_abs z ≤ 37000000000000000) (sym (handed c)) c.fields_time-in-Timed.ensures.1,
-  (bounds c.before.before).3,
+  subst (λ (z : ℤ). nat_abs z ≤ 37000000000000000) (sym (handed (goal.at.less_zone-requires c).After-fields_time-in-Timed)) c.fields_time-in-Timed.ensures.1,
+  (bounds (goal.at.less_zone-requires c).In-Timed).3,
 )
 
 pub returns-in-Date : goal.returns-in-Date
@@ -58,6 +58,6 @@ pub returns-in-Timed : goal.returns-in-Timed
 unfolding instant_of
 returns-in-Timed c =
     let zone = c.args.zone.now in
-    let z = c.form-in-Timed-1.given.0.1.1.1.0 in
+    let z = c.in-Timed.z in
     rw c.in-Timed.is
-    (kept {w = w64} (record { sfits = c.less_zone.type_inv }) ∙ c.less_zone.ensures ∙ ap (less_offset (records zone) (as_zone z)) (handed c.before ∙ time c.before))
+    (kept {w = w64} (record { sfits = c.less_zone.type_inv }) ∙ c.less_zone.ensures ∙ ap (less_offset (records zone) (as_zone z)) (handed (goal.at.returns-in-Timed c).After-fields_time-in-Timed ∙ time (goal.at.returns-in-Timed c).After-fields_time-in-Timed))

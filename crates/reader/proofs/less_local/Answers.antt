@@ -17,7 +17,7 @@ use Rattle.reader.proofs.less_local.Goals.{After-lookup, Start}
 
 module _ (c : After-lookup) where
   abbrev s : Start
-  s = c.before.before.before
+  s = c.before.before.before.before
 
   abbrev o : ℤ
   o = c.lookup.result

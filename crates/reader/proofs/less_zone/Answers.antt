@@ -22,30 +22,30 @@ small s = subst (λ (z : ℤ). nat_abs z ≤ 37000000000000000) (sym (handed s))
 
 pub less_offset-requires : goal.less_offset-requires
 less_offset-requires c =
-    let b : c.z-1.given.0.1.0 ≤ 23 = rw c.z-1.given.1 at c.requires.2 in
-    (small c.before.before.before.before, omega (arith, b), lit≤ tt)
+    let b : c.in-ToHour.hour ≤ 23 = rw c.in-ToHour.is at c.requires.2 in
+    (small (goal.at.less_offset-requires c).Start, omega (arith, b), lit≤ tt)
 
 pub less_offset-requires-in-ToMinute : goal.less_offset-requires-in-ToMinute
 less_offset-requires-in-ToMinute c =
-    let b : (c.z-in-ToMinute-1.given.0.1.0 ≤ 23) × (c.z-in-ToMinute-1.given.0.1.1.0 ≤ 59) = rw c.in-ToMinute.is at c.requires.2 in
-    (small c.before.before.before.before, omega (arith, b.0), omega (arith, b.1))
+    let b : (c.in-ToMinute.hour ≤ 23) × (c.in-ToMinute.minute ≤ 59) = rw c.in-ToMinute.is at c.requires.2 in
+    (small (goal.at.less_offset-requires-in-ToMinute c).Start, omega (arith, b.0), omega (arith, b.1))
 
 pub returns-in-Absent : goal.returns-in-Absent
 returns-in-Absent c =
     rw c.in-Absent.is
-    (kept {w = w64} (record { sfits = c.less_local.type_inv }) ∙ c.less_local.ensures ∙ ap (utc_time (records c.args.zone.now)) (handed c.before.before.before.before))
+    (kept {w = w64} (record { sfits = c.less_local.type_inv }) ∙ c.less_local.ensures ∙ ap (utc_time (records c.args.zone.now)) (handed (goal.at.returns-in-Absent c).Start))
 
 pub returns-in-Zulu : goal.returns-in-Zulu
-returns-in-Zulu c = rw c.in-Zulu.is (handed c.before.before.before)
+returns-in-Zulu c = rw c.in-Zulu.is (handed (goal.at.returns-in-Zulu c).Start)
 
 pub returns-in-ToHour : goal.returns-in-ToHour
 returns-in-ToHour c =
-    let z = c.z-1.given in
-    rw z.1
-    (kept {w = w64} (record { sfits = c.less_offset.type_inv }) ∙ c.less_offset.ensures ∙ ap (less_written z.0.0 z.0.1.0 0) (handed c.before.before.before.before.before))
+    let z = c.in-ToHour in
+    rw z.is
+    (kept {w = w64} (record { sfits = c.less_offset.type_inv }) ∙ c.less_offset.ensures ∙ ap (less_written z.negative z.hour 0) (handed (goal.at.returns-in-ToHour c).Start))
 
 pub returns-in-ToMinute : goal.returns-in-ToMinute
 returns-in-ToMinute c =
-    let z = c.z-in-ToMinute-1.given in
-    rw z.1
-    (kept {w = w64} (record { sfits = c.less_offset-in-ToMinute.type_inv }) ∙ c.less_offset-in-ToMinute.ensures ∙ ap (less_written z.0.0 z.0.1.0 z.0.1.1.0) (handed c.before.before.before.before.before))
+    let z = c.in-ToMinute in
+    rw z.is
+    (kept {w = w64} (record { sfits = c.less_offset-in-ToMinute.type_inv }) ∙ c.less_offset-in-ToMinute.ensures ∙ ap (less_written z.negative z.hour z.minute) (handed (goal.at.returns-in-ToMinute c).Start))

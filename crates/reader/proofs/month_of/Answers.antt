@@ -5,10 +5,10 @@ use native.Mathlib.Omega.{arith}
 use Rattle.reader.proofs.month_of.Goals as goal
 
 pub overflow_sub-result : goal.overflow_sub-result
-overflow_sub-result c = let p = rw c.d-1.given.1 at c.requires in omega (arith, p.0)
+overflow_sub-result c = let p = rw c.in-ToMonth.is at c.requires in omega (arith, p.0)
 
 pub overflow_sub-result-in-ToDay : goal.overflow_sub-result-in-ToDay
-overflow_sub-result-in-ToDay c = let p = rw c.d-in-ToDay-1.given.1 at c.requires in omega (arith, p.0)
+overflow_sub-result-in-ToDay c = let p = rw c.in-ToDay.is at c.requires in omega (arith, p.0)
 
 pub returns-in-ToYear : goal.returns-in-ToYear
 returns-in-ToYear c = rw c.in-ToYear.is (refl, omega arith)

@@ -25,17 +25,17 @@ returns-then-not-accept c = list-refused _ _ (sym c.accept.ensures ∙ c.if-not-
 pub instant_of-requires : goal.instant_of-requires
 instant_of-requires c =
     (
-      accepts-sound _ (accepted c.before.before.before.before),
-      (read-printed c.args.text.now (as_form c.form-1.given.0.0) (sym c.parse_text.ensures ∙ ap as_reading c.form-1.given.1)).bounds,
+      accepts-sound _ (accepted (goal.at.instant_of-requires c).Else-not-accept),
+      (read-printed c.args.text.now (as_form c.in-Read.form) (sym c.parse_text.ensures ∙ ap as_reading c.in-Read.is)).bounds,
     )
 
 pub returns-in-Refused : goal.returns-in-Refused
 returns-in-Refused c =
-    let f = c.f-1.given in
-    ap Refused c.refusal_of.ensures ∙ text-refused _ _ f.0.0 (accepted c.before.before.before.before.before) (sym c.parse_text.ensures ∙ ap as_reading f.1)
+    let f = c.in-Refused in
+    ap Refused c.refusal_of.ensures ∙ text-refused _ _ f.f (accepted (goal.at.returns-in-Refused c).Else-not-accept) (sym c.parse_text.ensures ∙ ap as_reading f.is)
 
 pub returns-in-Read : goal.returns-in-Read
 returns-in-Read c =
-    let f = c.form-1.given in
+    let f = c.in-Read in
     c.answer_at.ensures ∙ ap answer_at (kept {w = w64} (record { sfits = c.instant_of.type_inv }) ∙ c.instant_of.ensures)
-    ∙ text-read _ _ (as_form f.0.0) (accepted c.before.before.before.before.before.before) (sym c.parse_text.ensures ∙ ap as_reading f.1)
+    ∙ text-read _ _ (as_form f.form) (accepted (goal.at.returns-in-Read c).Else-not-accept) (sym c.parse_text.ensures ∙ ap as_reading f.is)

@@ -41,24 +41,24 @@ module _ (y : ℕ) (h : y ≤ 999999) where
   negative-small : nat_abs (to_z w64 (of_z w64 (pos 0 -ℤ to_z w64 y))) ≤ 1000000
   negative-small = subst (λ (z : ℤ). nat_abs z ≤ 1000000) (sym negative-value) (abs-out (neg_ℤ (pos y)) (omega (arith, neg-fact (pos y))))
 
-signed-small : (c : In-Six) → c.y-in-Six-1.given.0.1.0 ≤ 999999
-signed-small c = small c.y-in-Six-1.given.0.0 c.y-in-Six-1.given.0.1.0 (rw c.y-in-Six-1.given.1 at c.requires)
+signed-small : (c : In-Six) → c.in-Six.year ≤ 999999
+signed-small c = small c.in-Six.negative c.in-Six.year (rw c.in-Six.is at c.requires)
 
 pub overflow_sub-result : goal.overflow_sub-result
-overflow_sub-result c = negative-made c.y-in-Six-1.given.0.1.0 (signed-small c.before)
+overflow_sub-result c = negative-made c.in-Six.year (signed-small c.before)
 
 pub returns-in-Four : goal.returns-in-Four
 returns-in-Four c =
-    let y = c.y-1.given.0.0 in
+    let y = c.in-Four.year in
     let b : y ≤ 9999 = rw c.in-Four.is at c.requires in
     rw c.in-Four.is (number y (omega arith), number_small y (omega arith))
 
 pub returns-then-negative : goal.returns-then-negative
 returns-then-negative c =
-    let y = c.y-in-Six-1.given in
-    rw (y.1, c.if-negative.true) (negative-value y.0.1.0 (signed-small c.before), negative-small y.0.1.0 (signed-small c.before))
+    let y = c.in-Six.year in
+    rw (c.in-Six.is, c.if-negative.true) (negative-value y (signed-small c.before), negative-small y (signed-small c.before))
 
 pub returns-else-negative : goal.returns-else-negative
 returns-else-negative c =
-    let y = c.y-in-Six-1.given in
-    rw (y.1, c.if-negative.false) (number y.0.1.0 (signed-small c.before), number_small y.0.1.0 (signed-small c.before))
+    let y = c.in-Six.year in
+    rw (c.in-Six.is, c.if-negative.false) (number y (signed-small c.before), number_small y (signed-small c.before))
