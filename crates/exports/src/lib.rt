@@ -36,64 +36,55 @@ fn word32(z: i32) -> u64
 
 // ---- f64's own methods and saturating casts
 
-#[unsafe(no_mangle)]
-pub extern "C" fn exports_floor(x: u64) -> u64
+pub fn exports_floor(x: u64) -> u64
     ensures { Given x (λ (x : Float). Handed (floor_f x) result) }
 {
     float::bits_of(float::floor(float::of_bits(x)))
 }
 
-#[unsafe(no_mangle)]
-pub extern "C" fn exports_trunc(x: u64) -> u64
+pub fn exports_trunc(x: u64) -> u64
     ensures { Given x (λ (x : Float). Handed (trunc_f x) result) }
 {
     float::bits_of(float::trunc(float::of_bits(x)))
 }
 
-#[unsafe(no_mangle)]
-pub extern "C" fn exports_abs(x: u64) -> u64
+pub fn exports_abs(x: u64) -> u64
     ensures { Given x (λ (x : Float). Handed (abs_f x) result) }
 {
     float::bits_of(float::abs(float::of_bits(x)))
 }
 
-#[unsafe(no_mangle)]
-pub extern "C" fn exports_copysign(x: u64, sign: u64) -> u64
+pub fn exports_copysign(x: u64, sign: u64) -> u64
     ensures { Given x (λ (x : Float). Given sign (λ (sign : Float). Handed (copysign_f x sign) result)) }
 {
     float::bits_of(float::copysign(float::of_bits(x), float::of_bits(sign)))
 }
 
-#[unsafe(no_mangle)]
-pub extern "C" fn exports_rem_euclid(x: u64, by: u64) -> u64
+pub fn exports_rem_euclid(x: u64, by: u64) -> u64
     ensures { Given x (λ (x : Float). Given by (λ (by : Float). Handed (rem_euclid_f x by) result)) }
 {
     float::bits_of(float::rem_euclid(float::of_bits(x), float::of_bits(by)))
 }
 
-#[unsafe(no_mangle)]
-pub extern "C" fn exports_as_u8(x: u64) -> u64
+pub fn exports_as_u8(x: u64) -> u64
     ensures { Given x (λ (x : Float). result ≡ to_unsigned 8 x) }
 {
     float::as_u8(float::of_bits(x)) as u64
 }
 
-#[unsafe(no_mangle)]
-pub extern "C" fn exports_as_u16(x: u64) -> u64
+pub fn exports_as_u16(x: u64) -> u64
     ensures { Given x (λ (x : Float). result ≡ to_unsigned 16 x) }
 {
     float::as_u16(float::of_bits(x)) as u64
 }
 
-#[unsafe(no_mangle)]
-pub extern "C" fn exports_as_i32(x: u64) -> u64
+pub fn exports_as_i32(x: u64) -> u64
     ensures { Given x (λ (x : Float). Whole (to_signed 31 x) result) }
 {
     word32(float::as_i32(float::of_bits(x)))
 }
 
-#[unsafe(no_mangle)]
-pub extern "C" fn exports_as_i64(x: u64) -> u64
+pub fn exports_as_i64(x: u64) -> u64
     ensures { Given x (λ (x : Float). Whole (to_signed 63 x) result) }
 {
     word(float::as_i64(float::of_bits(x)))
@@ -101,106 +92,91 @@ pub extern "C" fn exports_as_i64(x: u64) -> u64
 
 // ---- the calendar
 
-#[unsafe(no_mangle)]
-pub extern "C" fn exports_day(t: u64) -> u64
+pub fn exports_day(t: u64) -> u64
     ensures { Given t (λ (t : Float). Handed (day_f t) result) }
 {
     float::bits_of(calendar::day(float::of_bits(t)))
 }
 
-#[unsafe(no_mangle)]
-pub extern "C" fn exports_time_within_day(t: u64) -> u64
+pub fn exports_time_within_day(t: u64) -> u64
     ensures { Given t (λ (t : Float). Handed (time_within_day_f t) result) }
 {
     float::bits_of(calendar::time_within_day(float::of_bits(t)))
 }
 
-#[unsafe(no_mangle)]
-pub extern "C" fn exports_days_in_year(y: u64) -> u64
+pub fn exports_days_in_year(y: u64) -> u64
     ensures { Given y (λ (y : Float). result ≡ days_in_year_f y) }
 {
     calendar::days_in_year(float::of_bits(y)) as u64
 }
 
-#[unsafe(no_mangle)]
-pub extern "C" fn exports_day_from_year(y: u64) -> u64
+pub fn exports_day_from_year(y: u64) -> u64
     ensures { Given y (λ (y : Float). Handed (day_from_year_f y) result) }
 {
     float::bits_of(calendar::day_from_year(float::of_bits(y)))
 }
 
-#[unsafe(no_mangle)]
-pub extern "C" fn exports_time_from_year(y: u64) -> u64
+pub fn exports_time_from_year(y: u64) -> u64
     ensures { Given y (λ (y : Float). Handed (time_from_year_f y) result) }
 {
     float::bits_of(calendar::time_from_year(float::of_bits(y)))
 }
 
-#[unsafe(no_mangle)]
-pub extern "C" fn exports_year_from_time(t: u64) -> u64
+pub fn exports_year_from_time(t: u64) -> u64
     ensures { Given t (λ (t : Float). Whole (year_from_time_f t) result) }
 {
     word32(calendar::year_from_time(float::of_bits(t)))
 }
 
-#[unsafe(no_mangle)]
-pub extern "C" fn exports_day_within_year(t: u64) -> u64
+pub fn exports_day_within_year(t: u64) -> u64
     ensures { Given t (λ (t : Float). result ≡ day_within_year_f t) }
 {
     calendar::day_within_year(float::of_bits(t)) as u64
 }
 
-#[unsafe(no_mangle)]
-pub extern "C" fn exports_in_leap_year(t: u64) -> u64
+pub fn exports_in_leap_year(t: u64) -> u64
     ensures { Given t (λ (t : Float). result ≡ in_leap_year_f t) }
 {
     calendar::in_leap_year(float::of_bits(t)) as u64
 }
 
-#[unsafe(no_mangle)]
-pub extern "C" fn exports_month_from_time(t: u64) -> u64
+pub fn exports_month_from_time(t: u64) -> u64
     ensures { Given t (λ (t : Float). result ≡ month_from_time_f t) }
 {
     calendar::month_from_time(float::of_bits(t)) as u64
 }
 
-#[unsafe(no_mangle)]
-pub extern "C" fn exports_date_from_time(t: u64) -> u64
+pub fn exports_date_from_time(t: u64) -> u64
     ensures { Given t (λ (t : Float). result ≡ date_from_time_f t) }
 {
     calendar::date_from_time(float::of_bits(t)) as u64
 }
 
-#[unsafe(no_mangle)]
-pub extern "C" fn exports_week_day(t: u64) -> u64
+pub fn exports_week_day(t: u64) -> u64
     ensures { Given t (λ (t : Float). result ≡ week_day_f t) }
 {
     calendar::week_day(float::of_bits(t)) as u64
 }
 
-#[unsafe(no_mangle)]
-pub extern "C" fn exports_hour_from_time(t: u64) -> u64
+pub fn exports_hour_from_time(t: u64) -> u64
     ensures { Given t (λ (t : Float). result ≡ hour_from_time_f t) }
 {
     calendar::hour_from_time(float::of_bits(t)) as u64
 }
 
-#[unsafe(no_mangle)]
-pub extern "C" fn exports_min_from_time(t: u64) -> u64
+pub fn exports_min_from_time(t: u64) -> u64
     ensures { Given t (λ (t : Float). result ≡ min_from_time_f t) }
 {
     calendar::min_from_time(float::of_bits(t)) as u64
 }
 
-#[unsafe(no_mangle)]
-pub extern "C" fn exports_sec_from_time(t: u64) -> u64
+pub fn exports_sec_from_time(t: u64) -> u64
     ensures { Given t (λ (t : Float). result ≡ sec_from_time_f t) }
 {
     calendar::sec_from_time(float::of_bits(t)) as u64
 }
 
-#[unsafe(no_mangle)]
-pub extern "C" fn exports_ms_from_time(t: u64) -> u64
+pub fn exports_ms_from_time(t: u64) -> u64
     ensures { Given t (λ (t : Float). result ≡ ms_from_time_f t) }
 {
     calendar::ms_from_time(float::of_bits(t)) as u64
@@ -208,8 +184,7 @@ pub extern "C" fn exports_ms_from_time(t: u64) -> u64
 
 // ---- the makers
 
-#[unsafe(no_mangle)]
-pub extern "C" fn exports_make_time(hour: u64, min: u64, sec: u64, ms: u64) -> u64
+pub fn exports_make_time(hour: u64, min: u64, sec: u64, ms: u64) -> u64
     ensures { Given hour (λ (hour : Float). Given min (λ (min : Float). Given sec (λ (sec : Float). Given ms (λ (ms : Float). Handed (make_time_f hour min sec ms) result)))) }
 {
     float::bits_of(make::make_time(
@@ -220,8 +195,7 @@ pub extern "C" fn exports_make_time(hour: u64, min: u64, sec: u64, ms: u64) -> u
     ))
 }
 
-#[unsafe(no_mangle)]
-pub extern "C" fn exports_make_day(year: u64, month: u64, date: u64) -> u64
+pub fn exports_make_day(year: u64, month: u64, date: u64) -> u64
     ensures { Given year (λ (year : Float). Given month (λ (month : Float). Given date (λ (date : Float). Handed (make_day_f year month date) result))) }
 {
     float::bits_of(make::make_day(
@@ -231,22 +205,19 @@ pub extern "C" fn exports_make_day(year: u64, month: u64, date: u64) -> u64
     ))
 }
 
-#[unsafe(no_mangle)]
-pub extern "C" fn exports_make_date(day: u64, time: u64) -> u64
+pub fn exports_make_date(day: u64, time: u64) -> u64
     ensures { Given day (λ (day : Float). Given time (λ (time : Float). Handed (make_date_f day time) result)) }
 {
     float::bits_of(make::make_date(float::of_bits(day), float::of_bits(time)))
 }
 
-#[unsafe(no_mangle)]
-pub extern "C" fn exports_make_full_year(year: u64) -> u64
+pub fn exports_make_full_year(year: u64) -> u64
     ensures { Given year (λ (year : Float). Handed (make_full_year_f year) result) }
 {
     float::bits_of(make::make_full_year(float::of_bits(year)))
 }
 
-#[unsafe(no_mangle)]
-pub extern "C" fn exports_time_clip(time: u64) -> u64
+pub fn exports_time_clip(time: u64) -> u64
     ensures { Given time (λ (time : Float). Handed (time_clip_f time) result) }
 {
     float::bits_of(make::time_clip(float::of_bits(time)))
@@ -254,15 +225,13 @@ pub extern "C" fn exports_time_clip(time: u64) -> u64
 
 // ---- the zone list and local time: 0 where the list is not accepted
 
-#[unsafe(no_mangle)]
-pub extern "C" fn exports_zone_accepted(zone: &[u8]) -> u64
+pub fn exports_zone_accepted(zone: &[u8]) -> u64
     ensures { result ≡ under_list zone.now 1 }
 {
     if zone::accept(zone) { 1 } else { 0 }
 }
 
-#[unsafe(no_mangle)]
-pub extern "C" fn exports_zone_offset(zone: &[u8], second: u64) -> u64
+pub fn exports_zone_offset(zone: &[u8], second: u64) -> u64
     ensures { result ≡ under_list zone.now (word (offset_at (records zone.now) (twos_complement 64 second))) }
 {
     if !zone::accept(zone) {
@@ -271,8 +240,7 @@ pub extern "C" fn exports_zone_offset(zone: &[u8], second: u64) -> u64
     word32(zone::lookup(zone, little_endian::signed64(second)))
 }
 
-#[unsafe(no_mangle)]
-pub extern "C" fn exports_local_timezone_offset_seconds(zone: &[u8], t: u64) -> u64
+pub fn exports_local_timezone_offset_seconds(zone: &[u8], t: u64) -> u64
     ensures { result ≡ under_list zone.now (word (offset_seconds_f (records zone.now) (of_bits binary64 t))) }
 {
     if !zone::accept(zone) {
@@ -281,8 +249,7 @@ pub extern "C" fn exports_local_timezone_offset_seconds(zone: &[u8], t: u64) -> 
     word32(local::local_timezone_offset_seconds(float::of_bits(t), zone))
 }
 
-#[unsafe(no_mangle)]
-pub extern "C" fn exports_local_time(zone: &[u8], t: u64) -> u64
+pub fn exports_local_time(zone: &[u8], t: u64) -> u64
     ensures { result ≡ under_list zone.now (to_bits binary64 (local_time_f (records zone.now) (of_bits binary64 t))) }
 {
     if !zone::accept(zone) {
@@ -291,8 +258,7 @@ pub extern "C" fn exports_local_time(zone: &[u8], t: u64) -> u64
     float::bits_of(local::local_time(float::of_bits(t), zone))
 }
 
-#[unsafe(no_mangle)]
-pub extern "C" fn exports_utc_t(zone: &[u8], t: u64) -> u64
+pub fn exports_utc_t(zone: &[u8], t: u64) -> u64
     ensures { result ≡ under_list zone.now (to_bits binary64 (utc_f (records zone.now) (of_bits binary64 t))) }
 {
     if !zone::accept(zone) {
@@ -303,8 +269,7 @@ pub extern "C" fn exports_utc_t(zone: &[u8], t: u64) -> u64
 
 // ---- digits: a count of digits is taken from 1 to the block's bytes, and a number by as many digits as the pad has
 
-#[unsafe(no_mangle)]
-pub extern "C" fn exports_process_4(val: u64, len: u64) -> u64
+pub fn exports_process_4(val: u64, len: u64) -> u64
     ensures { result ≡ join4 (moved 32 ((len % 4 + 3) % 4 + 1) (val % 2 ^ 32)) }
 {
     fast_atoi::process_4(
@@ -313,15 +278,13 @@ pub extern "C" fn exports_process_4(val: u64, len: u64) -> u64
     ) as u64
 }
 
-#[unsafe(no_mangle)]
-pub extern "C" fn exports_process_8(val: u64, len: u64) -> u64
+pub fn exports_process_8(val: u64, len: u64) -> u64
     ensures { result ≡ join8 (moved 64 ((len % 8 + 7) % 8 + 1) val) }
 {
     fast_atoi::process_8(val, ((len % 8 + 7) % 8 + 1) as usize)
 }
 
-#[unsafe(no_mangle)]
-pub extern "C" fn exports_pad_two(t: u64) -> u64
+pub fn exports_pad_two(t: u64) -> u64
     ensures { Packed (digits 2 (t % 100)) 2 result }
 {
     let mut bytes = [0u8; 8];
@@ -329,8 +292,7 @@ pub extern "C" fn exports_pad_two(t: u64) -> u64
     little_endian::u64_at(&bytes, 0)
 }
 
-#[unsafe(no_mangle)]
-pub extern "C" fn exports_pad_three(t: u64) -> u64
+pub fn exports_pad_three(t: u64) -> u64
     ensures { Packed (digits 3 (t % 1000)) 3 result }
 {
     let mut bytes = [0u8; 8];
@@ -338,8 +300,7 @@ pub extern "C" fn exports_pad_three(t: u64) -> u64
     little_endian::u64_at(&bytes, 0)
 }
 
-#[unsafe(no_mangle)]
-pub extern "C" fn exports_pad_four(t: u64) -> u64
+pub fn exports_pad_four(t: u64) -> u64
     ensures { Packed (digits 4 (t % 10000)) 4 result }
 {
     let mut bytes = [0u8; 8];
@@ -347,8 +308,7 @@ pub extern "C" fn exports_pad_four(t: u64) -> u64
     little_endian::u64_at(&bytes, 0)
 }
 
-#[unsafe(no_mangle)]
-pub extern "C" fn exports_pad_five(t: u64) -> u64
+pub fn exports_pad_five(t: u64) -> u64
     ensures { Packed (digits 5 (t % 100000)) 5 result }
 {
     let mut bytes = [0u8; 8];
@@ -356,8 +316,7 @@ pub extern "C" fn exports_pad_five(t: u64) -> u64
     little_endian::u64_at(&bytes, 0)
 }
 
-#[unsafe(no_mangle)]
-pub extern "C" fn exports_pad_six(t: u64) -> u64
+pub fn exports_pad_six(t: u64) -> u64
     ensures { Packed (digits 6 (t % 1000000)) 6 result }
 {
     let mut bytes = [0u8; 8];
