@@ -36,8 +36,8 @@ loop-i-preserved c =
     (
       omega (arith, m),
       t.ensures.few,
-      t.auto.1.0 ∙ v.2,
-      t.auto.1.1.1.0 ∙ v.3,
+      t.auto.line ∙ v.2,
+      t.auto.output ∙ v.3,
       more-puts c.args.chunk.now _ _ _ m v.5 v.4 t.ensures.puts,
       more-open c.args.chunk.now _ c.args.output.now c.args.at m v.5 t.ensures.opens,
       more_bytes c.args.chunk.now _ c.args.output.now c.args.at m _ v.5 v.6 t.ensures.leaves,

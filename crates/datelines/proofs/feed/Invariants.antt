@@ -16,4 +16,3 @@ invariant-loop-i l =
 
 abbrev pub decreases-loop-i : goal.decreases-loop-i
 decreases-loop-i l = length l.chunk - l.i
--- LOOPS [[["loop", "loop-i"], ["chunk", "line", "kept", "output", "at", "n", "next", "i"]]]

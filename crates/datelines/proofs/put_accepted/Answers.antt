@@ -15,7 +15,7 @@ use Rattle.datelines.proofs.put_accepted.Goals as goal
 
 pub put-requires-3 : goal.put-requires-3
 put-requires-3 c =
-    omega (arith, c.put_signed-a.ensures.next-is, signed-length (to_z w64 (of_z w64 c.as_i64-time.result)), c.put_signed-a.auto.1.0, c.put-2.auto.1.0, c.put.auto.1.0, c.requires.1)
+    omega (arith, c.put_signed-a.ensures.next-is, signed-length (to_z w64 (of_z w64 c.as_i64-time.result)), c.put_signed-a.auto.output, c.put-2.auto.output, c.put.auto.output, c.requires.1)
 
 pub overflow_add-a : goal.overflow_add-a
 overflow_add-a c =
@@ -23,11 +23,11 @@ overflow_add-a c =
 
 pub put_iso-b-requires : goal.put_iso-b-requires
 put_iso-b-requires c =
-    (c.requires.0, omega (arith, c.put_signed-a.ensures.next-is, signed-length (to_z w64 (of_z w64 c.as_i64-time.result)), c.put-3.auto.1.0, c.put_signed-a.auto.1.0, c.put-2.auto.1.0, c.put.auto.1.0, c.requires.1))
+    (c.requires.0, omega (arith, c.put_signed-a.ensures.next-is, signed-length (to_z w64 (of_z w64 c.as_i64-time.result)), c.put-3.auto.output, c.put_signed-a.auto.output, c.put-2.auto.output, c.put.auto.output, c.requires.1))
 
 pub put-requires-4 : goal.put-requires-4
 put-requires-4 c =
-    omega (arith, c.put_iso-b.ensures.next-is, iso-length c.args.bits, c.put_iso-b.auto.1.0, c.put_signed-a.ensures.next-is, signed-length (to_z w64 (of_z w64 c.as_i64-time.result)), c.put-3.auto.1.0, c.put_signed-a.auto.1.0, c.put-2.auto.1.0, c.put.auto.1.0, c.requires.1)
+    omega (arith, c.put_iso-b.ensures.next-is, iso-length c.args.bits, c.put_iso-b.auto.output, c.put_signed-a.ensures.next-is, signed-length (to_z w64 (of_z w64 c.as_i64-time.result)), c.put-3.auto.output, c.put_signed-a.auto.output, c.put-2.auto.output, c.put.auto.output, c.requires.1)
 
 pub overflow_add-result : goal.overflow_add-result
 overflow_add-result c =

@@ -9,7 +9,7 @@ use Rattle.datelines.proofs.put_iso.Goals as goal
 
 pub overflow_add-result : goal.overflow_add-result
 overflow_add-result c =
-    omega (arith, text-length c.requires.0 c.args.output.now c.args.at c.requires.1 c.to_iso_string.ensures c.length-1.given.1, iso-length c.args.bits, c.requires.1, c.well_formed)
+    omega (arith, text-length c.requires.0 c.args.output.now c.args.at c.requires.1 c.to_iso_string.ensures c.in-Text.is, iso-length c.args.bits, c.requires.1, c.well_formed)
 
 pub returns-in-Text : goal.returns-in-Text
 returns-in-Text c =
@@ -18,11 +18,11 @@ returns-in-Text c =
 pub returns-in-Time : goal.returns-in-Time
 returns-in-Time c =
     let e = reply-is-text c.requires.0 c.args.output.now c.args.at c.requires.1 c.to_iso_string.ensures in
-    let h = c.enum_told-1.given in
+    let h = c.in-Time.is in
     let z : ◌≡◌ {A = ℕ} 0 1 = cc in absurd (omega arith)
 
 pub returns-in-Refused : goal.returns-in-Refused
 returns-in-Refused c =
     let e = reply-is-text c.requires.0 c.args.output.now c.args.at c.requires.1 c.to_iso_string.ensures in
-    let h = c.enum_told-in-Refused-1.given in
+    let h = c.in-Refused.is in
     let z : ◌≡◌ {A = ℕ} 0 1 = cc in absurd (omega arith)

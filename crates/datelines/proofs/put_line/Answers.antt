@@ -9,7 +9,7 @@ use Rattle.datelines.proofs.Streams.{line-of}
 use Rattle.datelines.proofs.put_line.Goals as goal
 
 pub put_accepted-requires : goal.put_accepted-requires
-put_accepted-requires c = (read-bits _ _ _ (sym c.read.ensures ∙ c.bits-1.given.1), omega (arith, c.requires))
+put_accepted-requires c = (read-bits _ _ _ (sym c.read.ensures ∙ c.in-Time.is), omega (arith, c.requires))
 
 pub returns-in-Time : goal.returns-in-Time
 returns-in-Time c = puts-as c.put_accepted.ensures (line-of _ _ (sym c.read.ensures ∙ c.in-Time.is))
@@ -18,4 +18,4 @@ pub returns-in-Text : goal.returns-in-Text
 returns-in-Text c = puts-as none (line-of _ _ (sym c.read.ensures ∙ c.in-Text.is))
 
 pub returns-in-Refused : goal.returns-in-Refused
-returns-in-Refused c = puts-as c.Put-refused.ensures (ap refused_line c.refusal_number.ensures ∙ line-of _ _ (sym c.read.ensures ∙ c.in-Refused.is))
+returns-in-Refused c = puts-as c.put_refused.ensures (ap refused_line c.refusal_number.ensures ∙ line-of _ _ (sym c.read.ensures ∙ c.in-Refused.is))

@@ -10,7 +10,7 @@ use Rattle.datelines.proofs.put_refused.Goals as goal
 pub put-requires : goal.put-requires
 put-requires c =
     let p = c.put_decimal-next in
-    omega (arith, p.ensures.next-is, within 20 c.args.number, p.auto.1.0, c.requires)
+    omega (arith, p.ensures.next-is, within 20 c.args.number, p.auto.output, c.requires)
 
 pub overflow_add-result : goal.overflow_add-result
 overflow_add-result c =

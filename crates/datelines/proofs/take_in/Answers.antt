@@ -12,7 +12,7 @@ slice_bounds-put_line-end-then-b-eq10 c = sym (length-take-le c.args.kept c.args
 
 pub returns-then-b-eq10 : goal.returns-then-b-eq10
 returns-then-b-eq10 c =
-    let e = c.if1.true in
+    let e = c.if-b-eq10.true in
     let p = puts-as c.put_line-next.ensures (ends _ _ e) in
     record { puts = p; opens = begins _ _ e; leaves = begins-bytes _ _ _ e; few = omega arith; room = byte-room _ _ p }
 

@@ -9,4 +9,3 @@ invariant-loop-k l = (l.q < l.n) × (l.n < 2 ^ 53) × (l.r < l.n) × (l.r * 2 ^ 
 
 abbrev pub decreases-loop-k : goal.decreases-loop-k
 decreases-loop-k l = l.k
--- LOOPS [[["loop", "loop-k"], ["q", "d", "n", "s", "r", "k"]]]

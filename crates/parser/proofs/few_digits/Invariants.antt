@@ -10,4 +10,3 @@ invariant-loop-i l = Run l.text l.at l.n l.i l.value l.next
 
 abbrev pub decreases-loop-i : goal.decreases-loop-i
 decreases-loop-i l = l.n - l.i
--- LOOPS [[["loop", "loop-i"], ["text", "at", "n", "value", "next", "i"]]]

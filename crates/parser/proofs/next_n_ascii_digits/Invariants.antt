@@ -9,4 +9,3 @@ invariant-loop-i l = Gathered l.text l.at l.n l.i l.block l.next
 
 abbrev pub decreases-loop-i : goal.decreases-loop-i
 decreases-loop-i l = l.n - l.i
--- LOOPS [[["loop", "loop-i"], ["text", "at", "n", "block", "next", "i"]]]

@@ -13,4 +13,3 @@ invariant-loop-i l = (l.n ≡ length l.text) × (l.n ≤ length l.initial.output
 
 abbrev pub decreases-loop-i : goal.decreases-loop-i
 decreases-loop-i l = l.n - l.i
--- LOOPS [[["loop", "loop-i"], ["text", "output", "n", "i"]]]

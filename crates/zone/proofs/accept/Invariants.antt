@@ -15,4 +15,3 @@ invariant-loop-i l = (l.i ≤ l.n) × T (all_below l.i (keeps (records l.zone)))
 
 abbrev pub decreases-loop-i : goal.decreases-loop-i
 decreases-loop-i l = l.n - l.i
--- LOOPS [[["loop", "loop-i"], ["zone", "n", "last", "i"]]]
