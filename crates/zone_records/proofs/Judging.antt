@@ -22,11 +22,11 @@ use Rattle.zone_records.specs.declared.ZoneRecord.{ZoneRecord}
 use Rattle.zone_records.specs.Slice.{as_records}
 use Rattle.zone_records.proofs.Halving.{none, records-length, second_is, offset-is}
 
--- ---- one record's test, of the numbers as the machine has them: -86,399 is 2^32 - 86,399 = 4,294,880,897 in 32 bits
+-- ---- one record's test, of the numbers as the machine has them
 abbrev pub judges : ℕ → ℤ → ZoneRecord → Bool
 judges i before z =
-    le_z (to_z w32 4294880897) (to_z w32 (of_z w32 z.offset)) && le_z (to_z w32 (of_z w32 z.offset)) (to_z w32 86399)
-    && (eqb i 0 || lt_z (to_z w64 (of_z w64 before)) (to_z w64 (of_z w64 z.second)))
+    le_z (negsuc 86398) (to_z w32 (of_z w32 z.offset)) && le_z (to_z w32 (of_z w32 z.offset)) (pos 86399)
+    && (eqb i 0 || lt_z before (to_z w64 (of_z w64 z.second)))
 
 bounded-is : (z : ℤ) → (le_z (negsuc 86398) z && le_z z (pos 86399)) ≡ leb (nat_abs z) 86399
 bounded-is (pos n) = refl
@@ -46,12 +46,11 @@ module _ (list : List ZoneRecord) where
     pub kept : Bool
     pub before : ℤ
     pub within : i ≤ length list
-    pub fits : mag before < 2 ^ 63
     pub behind : (i ≡ 0) ⊎ (before ≡ (get_or list (i - 1) none).second)
     pub so_far : kept ≡ (few && all_below i (keeps (as_records list)))
 
   abbrev pub judged-none : Judged
-  judged-none = record { i = 0; kept = few; before = pos 0; within = omega arith; fits = omega arith; behind = inl refl; so_far = sym (and-true few) }
+  judged-none = record { i = 0; kept = few; before = pos 0; within = omega arith; behind = inl refl; so_far = sym (and-true few) }
 
   abbrev at : Judged → ZoneRecord
   at a = get_or list a.i none
@@ -61,8 +60,7 @@ module _ (list : List ZoneRecord) where
       let i = a.i in
       let second = to_z-of_z w64 (at a).second (record { sfits = s }) in
       let offset = to_z-of_z w32 (at a).offset (record { sfits = o }) in
-      let before = to_z-of_z w64 a.before (record { sfits = a.fits }) in
-      (λ j. le_z (negsuc 86398) (offset j) && le_z (offset j) (pos 86399) && (eqb i 0 || lt_z (before j) (second j)))
+      (λ j. le_z (negsuc 86398) (offset j) && le_z (offset j) (pos 86399) && (eqb i 0 || lt_z a.before (second j)))
       ∙ (λ j. bounded-is (at a).offset j && order_is i a.before (get_or list (i - 1) none).second (at a).second a.behind j)
       ∙ (λ j. leb (nat_abs (sym (offset-is list i) j)) 86399 && (eqb i 0 || lt_z (sym (second_is list (i - 1)) j) (sym (second_is list i) j)))
 
@@ -71,14 +69,13 @@ module _ (list : List ZoneRecord) where
   one_more false e k h = absurd (false≢true h)
 
   -- one record more is judged, where all before it kept the rule
-  abbrev pub judged-more : (a : Judged) → (a.kept && ltb a.i (length list)) ≡ true → mag (at a).second < 2 ^ 63 → Judged
-  judged-more a e s =
+  abbrev pub judged-more : (a : Judged) → (a.kept && ltb a.i (length list)) ≡ true → Judged
+  judged-more a e =
       record {
         i = a.i + 1;
         kept = keeps (as_records list) a.i;
         before = (at a).second;
         within = omega (arith, ltb→lt a.i (length list) both.1);
-        fits = s;
         behind = inr (ap (λ (k : ℕ). (get_or list k none).second) (let back : a.i ≡ a.i + 1 - 1 = omega arith in back));
         so_far =
             one_more few (all_below a.i (keeps (as_records list))) (keeps (as_records list) a.i) (sym a.so_far ∙ is_true a.kept both.0)
@@ -87,6 +84,22 @@ module _ (list : List ZoneRecord) where
     where
       both : T a.kept × T (ltb a.i (length list))
       both = and_yes a.kept (ltb a.i (length list)) (true-T _ e)
+
+  -- the same of the turn's own numbers, which are those of a `Judged`
+  pub judged-next : (a : Judged) (i : ℕ) (kept : Bool) (before : ℤ) → a.i ≡ i → a.kept ≡ kept → a.before ≡ before → (kept && ltb i (length list)) ≡ true
+      → mag (get_or list i none).second < 2 ^ 63 → mag (get_or list i none).offset < 2 ^ 31
+      → (x : Judged) × ((x.i ≡ i + 1) × (x.kept ≡ judges i before (get_or list i none)) × (x.before ≡ to_z w64 (of_z w64 (get_or list i none).second)))
+  judged-next a i kept before ei ek eb e s o =
+      let second = subst (λ (k : ℕ). mag (get_or list k none).second < 2 ^ 63) (sym ei) s in
+      let offset = subst (λ (k : ℕ). mag (get_or list k none).offset < 2 ^ 31) (sym ei) o in
+      (
+        judged-more a ((λ j. ek j && ltb (ei j) (length list)) ∙ e),
+        (
+          ap (λ (k : ℕ). k + 1) ei,
+          sym (judges-is a second offset) ∙ (λ j. judges (ei j) (eb j) (get_or list (ei j) none)),
+          ap (λ (k : ℕ). (get_or list k none).second) ei ∙ sym (to_z-of_z w64 (get_or list i none).second (record { sfits = s })),
+        ),
+      )
 
   -- where one record breaks the rule, or none is left, the test is made
   whole : is_zone_list (as_records list) ≡ (few && all_below (length list) (keeps (as_records list)))

@@ -1,6 +1,4 @@
 pub mod Halving
 pub mod Judging
-pub mod Part
-pub mod Lent
 pub mod Same
 pub mod Encoding
