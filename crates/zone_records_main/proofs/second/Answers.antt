@@ -9,26 +9,13 @@ use mir.Facts.{to_z_pos}
 use borrow.Author.Rules.{rules}
 use Rattle.integers.proofs.Int.{at, ◌-ᵗ◌, read}
 use Rattle.integers.proofs.Machine.{fits64}
-use Rattle.zone_records_main.proofs.second.Statement.{statement}
-use Rattle.zone_records_main.proofs.second.Tie as tie
-
-mul-result : tie.Need-overflow-mul-result
-mul-result c = search rules
-
-cast-result : tie.Need-overflow-cast-result
-cast-result c = search rules
+use Rattle.zone_records_main.proofs.second.Goals as goal
 
 natural : (i : ℕ) → i ≤ 2056 → to_z w64 (1073741824 * i) ≡ pos (1073741824 * i)
 natural i h = to_z_pos w64 (omega arith)
 
-sub-result : tie.Need-overflow-sub-result
-sub-result c =
+pub overflow_sub-result : goal.overflow_sub-result
+overflow_sub-result c =
     let step = 1073741824 * c.args.i in
     subst (λ (s : ℤ). SFits w64 (s -ℤ pos 1103806595072)) (sym (natural c.args.i c.requires))
     (fits64 (pos step -ℤ pos 1103806595072) (omega (arith, c.requires, read (at (pos step) -ᵗ at (pos 1103806595072)))))
-
-returns : tie.Need-returns
-returns c = search rules
-
-pub second_spec : {M : Type 1} → statement M
-second_spec = tie.close (tie.spec mul-result cast-result sub-result returns)
