@@ -45,7 +45,7 @@ pub fn parse<'a>(r: Reader<'a>) -> parser::Parsed
     parse_at(r.text, r.at)
 }
 
-// From a plain text to a reader and back: its callers need no walk.
+// From a plain text to a reader and back.
 pub fn parse_text(text: &[u8]) -> parser::Parsed
     ensures { as_reading result ≡ read text.now }
 {

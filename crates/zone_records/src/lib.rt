@@ -13,7 +13,7 @@ pub struct ZoneRecord {
 }
 
 // Whether a slice of records is a zone list, by the test that bytes are judged by: each record is judged beside the second before it. The tests
-// are joined by `&` and `|`, so that a turn has one way through it, and its walk as well.
+// are joined by `&` and `|`, so that a turn has one way through it.
 pub fn accept(zone: &[ZoneRecord]) -> bool
     ensures { result ≡ is_zone_list (as_records zone.now) }
 {
@@ -51,7 +51,7 @@ pub fn lookup(zone: &[ZoneRecord], second: i64) -> i32
     zone[low].offset
 }
 
-// The first `n` records of an array, judged and looked up in: from plain values to a slice and back, so that no caller has a walk. The array
+// The first `n` records of an array, judged and looked up in: from plain values to a slice and back. The array
 // holds one record more than a list may have, so that too many can be judged as well.
 pub fn accept_first(all: [ZoneRecord; 1025], n: usize) -> bool
     requires { n ≤ 1025 }
