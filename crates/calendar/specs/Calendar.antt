@@ -1,6 +1,6 @@
 -- The calendar of builtins/date/utils.rs on f64: the original's operations in its order, each rounded once, for every value. What they are
 -- on whole numbers, ECMA-262's calendar, are laws (proofs/Whole.antt). Definitions only. Assumes nothing.
-use Rattle.std.specs.Prelude.{Bool, cond, ℕ, ◌+◌, ◌%◌, eqb, ℤ, pos, nat_abs, ◌+ℤ◌, ◌-ℤ◌, Float}
+use Rattle.std.specs.Prelude.{Bool, cond, ℕ, ◌%◌, eqb, ℤ, pos, nat_abs, ◌+ℤ◌, ◌-ℤ◌, Float}
 use Rattle.std.specs.Float.{binary64}
 use Rattle.std.specs.Float.Ieee.{add, sub, mul, div, lt, eq, of_int, to_unsigned, to_signed}
 use Rattle.integers.specs.Whole.{floor_mod}

@@ -34,7 +34,13 @@ fn write(rt: &HostRuntime, answers: &[u8]) -> bool {
 
 // Reads once, no more than `feed` can answer in the output, and writes the answers out. The input has ended where a read gives nothing: then
 // a last line without a newline is answered. A read that fails is not that end.
-fn take_turn(rt: &HostRuntime, input: &mut [u8], line: &mut [u8], kept: usize, output: &mut [u8]) -> Turn
+fn take_turn(
+    rt: &HostRuntime,
+    input: &mut [u8],
+    line: &mut [u8],
+    kept: usize,
+    output: &mut [u8],
+) -> Turn
     requires { (length input.old ≡ 4096) × (length line.old ≡ 33) × (kept ≤ 33) × (length output.old ≡ 262144) }
     ensures { result.kept ≤ 33 }
 {

@@ -1,7 +1,6 @@
 -- A signed number in decimal is its sign and then its magnitude. Assumes nothing.
 use mathlib.Core.Path.{◌≡◌, refl}
 use mathlib.Core.List.{◌++◌}
-use Prim.Native.Nat.{◌<◌}
 use lib.IntN.{ℤ, pos, negsuc, nat_abs}
 use lib.Signed.{◌≤ℤ◌, ◌<ℤ◌}
 use Rattle.ecma262.specs.Texts.{ascii}

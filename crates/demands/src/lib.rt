@@ -1,3 +1,2 @@
 // Statements only: demands 2 and 3, clause by clause, about the definitions that the C functions' contracts cite.
 #![tactic(auto)]
-

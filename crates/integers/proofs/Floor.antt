@@ -1,9 +1,9 @@
 -- floor_div and floor_mod are what their names say, for every divisor d + 1. Assumes nothing.
 use mathlib.Core.Path.{◌≡◌, sym, ap, ◌∙◌}
-use Prim.Native.Nat.{ℕ, suc, ◌+◌, ◌*◌, ◌≤◌, ◌<◌}
+use Prim.Native.Nat.{ℕ, suc, ◌*◌, ◌<◌}
 use native.Mathlib.Nat.{mul-le-mul_left, mod-lt}
 use native.Mathlib.Omega.{arith}
-use lib.IntN.{ℤ, pos, negsuc, ◌+ℤ◌, ◌-ℤ◌, ◌*ℤ◌}
+use lib.IntN.{ℤ, pos, negsuc, ◌+ℤ◌, ◌*ℤ◌}
 use lib.Signed.{lt_z, ◌≤ℤ◌, ◌<ℤ◌, lt_z_yes, lt_z_no}
 use Rattle.integers.specs.Whole.{floor_div, floor_mod}
 use Rattle.integers.proofs.Int.{plus, minus, ints, lt_in, div-mod-fact, by-test, at, ◌+ᵗ◌, ◌*ᵗ◌, read}

@@ -1,12 +1,12 @@
 -- `time_clip` is TimeClip: of every whole time it is the f64 of what TimeClip gives, and of every f64 it is a time value, so NaN or a whole number in the
 -- range and never -0. Assumes nothing.
 use mathlib.Core.Path.{◌≡◌, refl, sym, ap, ◌∙◌, subst}
-use mathlib.Core.Bool.{Bool, true, false, not, cond, ◌&&◌, false≢true}
+use mathlib.Core.Bool.{Bool, true, false, not, ◌&&◌, false≢true}
 use Prim.Native.Nat.{◌^◌, ◌≤◌, ◌<◌}
 use native.Mathlib.Nat.{div-one, zero-lt-suc}
 use native.Mathlib.Omega.{arith}
 use lib.Dec.{T, leb, leb→le, nleb→lt, lit<, lit≤}
-use lib.IntN.{ℤ, pos, nat_abs}
+use lib.IntN.{ℤ, nat_abs}
 use lib.Ieee.{Float, nan, binary64, fits, lt, eq, of_int}
 use lib.Ieee.Bits.{is_true}
 use lib.Ieee.Scale.{finite}

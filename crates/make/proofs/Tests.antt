@@ -1,10 +1,9 @@
 -- What the makers' tests decide: an argument that is not finite gives NaN, and with finite arguments the steps that follow are taken. Assumes nothing.
 use mathlib.Core.Path.{◌≡◌, refl, sym, ap, ◌∙◌}
-use mathlib.Core.Bool.{Bool, true, false, not, cond, ◌&&◌}
+use mathlib.Core.Bool.{Bool, true, false, cond, ◌&&◌}
 use Prim.Native.Nat.{ℕ}
 use lib.Ieee.{Float, nan, binary64, add, sub, mul, lt, le, is_nan}
 use lib.Ieee.Scale.{finite}
-use borrow.Author.Tests.{not-true, not-false}
 use Rattle.float.specs.Rounding.{trunc_f, abs_f, to_integer_or_infinity, plus_zero}
 use Rattle.calendar.specs.Calendar.{num, day_f}
 use Rattle.make.proofs.Finite.{summand-left, summand-right, factor, uncut}

@@ -1,7 +1,6 @@
 -- "Can two programs keep it and differ?" Not the contract of `parse`: two answers with the same reading are equal. Assumes nothing.
 use mathlib.Core.Path.{◌≡◌, refl, sym, ap, ◌∙◌}
 use Rattle.ecma262.specs.Format as format
-use Rattle.parser.specs.declared.Fault.{Fault}
 use Rattle.parser.specs.declared.Year.{Year}
 use Rattle.parser.specs.declared.Year.TheVariants.{Four, Six}
 use Rattle.parser.specs.declared.Date.{Date}
@@ -10,7 +9,6 @@ use Rattle.parser.specs.declared.Time.{Time}
 use Rattle.parser.specs.declared.Time.TheVariants as T
 use Rattle.parser.specs.declared.Zone.{Zone}
 use Rattle.parser.specs.declared.Zone.TheVariants as Z
-use Rattle.parser.specs.declared.Form.{Form}
 use Rattle.parser.specs.declared.Form.TheVariants as F
 use Rattle.parser.specs.declared.Parsed.{Parsed}
 use Rattle.parser.specs.declared.Parsed.TheVariants as P

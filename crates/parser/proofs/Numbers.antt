@@ -9,7 +9,7 @@ use lib.Dec.{leb}
 use borrow.Author.Tests.{le-leb, leb-true}
 use Rattle.ecma262.specs.Digits.{digits}
 use Rattle.ecma262.proofs.Digits.{digits-cons, digits-split, first-digit, ten-pos}
-use Rattle.parser.specs.declared.Fault.TheVariants.{Short, Bad}
+use Rattle.parser.specs.declared.Fault.TheVariants.{Bad}
 use Rattle.parser.specs.Reading.{ok, fault, digits_after, within, field, after}
 
 -- what n digits that write w make of the digits v before them

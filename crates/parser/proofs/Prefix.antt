@@ -14,7 +14,7 @@ use Rattle.ecma262.specs.Format.Year.{four, six}
 use Rattle.ecma262.specs.Format.Date.{toYear, toMonth, toDay}
 use Rattle.ecma262.specs.Format.Time.{toSecond, toDecimals}
 use Rattle.ecma262.specs.Format.Zone.{absent, zulu, toHour}
-use Rattle.parser.specs.declared.Fault.TheVariants.{Short, Bad, Range}
+use Rattle.parser.specs.declared.Fault.TheVariants.{Bad, Range}
 use Rattle.parser.specs.Reading.{Out, ok, fault, Reader, bind, after, give, choose, byte, is_digit, digits_after, within, field, signed_year, read_year, read_day, read_date, read_decimals, read_second, read_time, read_offset_minute, read_offset, read_zone, after_date, ending, time_part, rest, read}
 
 -- an outcome, with t after what is left

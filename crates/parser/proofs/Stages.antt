@@ -3,7 +3,7 @@
 use mathlib.Core.Path.{◌≡◌, refl, ap, ◌∙◌}
 use mathlib.Core.Bool.{Bool, true, false, cond}
 use mathlib.Core.List.{List, [], ◌∷◌, ◌++◌}
-use Prim.Native.Nat.{ℕ, ◌+◌, ◌^◌, ◌≤◌, ◌<◌}
+use Prim.Native.Nat.{ℕ, ◌^◌, ◌≤◌, ◌<◌}
 use native.Mathlib.Omega.{arith}
 use lib.Dec.{eqb, leb}
 use borrow.Author.Tests.{eqb-true, eqb-false, eq-eqb, ne_eqb, leb-true}
@@ -13,7 +13,7 @@ use Rattle.ecma262.specs.Format.Year.{four, six}
 use Rattle.ecma262.specs.Format.Date.{toYear, toMonth, toDay}
 use Rattle.ecma262.specs.Format.Time.{toSecond, toDecimals}
 use Rattle.ecma262.specs.Format.Zone.{absent, zulu, toHour}
-use Rattle.parser.specs.declared.Fault.TheVariants.{Short, Bad, Range}
+use Rattle.parser.specs.declared.Fault.TheVariants.{Bad, Range}
 use Rattle.parser.specs.Reading.{Out, ok, fault, Reader, bind, after, give, choose, byte, digits_after, within, field, signed_year, read_year, read_day, read_date, read_decimals, read_second, read_time, read_offset_minute, read_offset, read_zone}
 use Rattle.parser.proofs.Numbers.{Number, number_read, number-written, Field, field-written}
 

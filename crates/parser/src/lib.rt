@@ -6,7 +6,6 @@
 // through memory.
 #![tactic(auto)]
 
-
 ghost use Rattle.std.specs.Prelude.{◌≡◌, ◌≤◌, ◌<◌, drop};
 ghost use Rattle.parser.specs.Reading.{digits_after, field, signed_year, after, read_year, read_day, read_date, read_decimals, read_second, read_time, read_offset_minute, read_offset, read_zone, after_date, after_zone, time_allowed, time_part, read};
 ghost use Rattle.parser.specs.Inner.{Reads, IsBlock, is_sign, four_digits, hour_allowed, out_digits, out_year, out_date, out_time, out_zone, as_year, as_date, as_time, as_zone, as_reading};

@@ -1,12 +1,12 @@
 -- What `time_value_of` says of 64 bits: `Time t` is a whole number t of the range, not -0, with the value of the bits; `Nan` is a pattern of
 -- NaN; `Refused` is neither. Each whole number of the range, by its bits, is that time. Assumes nothing.
 use mathlib.Core.Path.{◌≡◌, refl, sym, ap, ◌∙◌, subst}
-use mathlib.Core.Bool.{Bool, true, false, cond, true≢false}
+use mathlib.Core.Bool.{Bool, true, false, true≢false}
 use Prim.Native.Nat.{ℕ}
 use native.Mathlib.Nat.{le_trans}
 use native.Mathlib.Omega.{arith}
 use lib.Dec.{T, lit≤}
-use lib.IntN.{ℤ, pos}
+use lib.IntN.{ℤ}
 use lib.Ieee.{Float, nan, binary64, of_bits, to_bits, of_int, is_nan, fits}
 use lib.Ieee.Bits.{of_bits-to_bits, of_bits-fits, is_false}
 use lib.Ieee.Fits.{of_int-fits}

@@ -91,8 +91,7 @@ module _ (list : List ZoneRecord) where
       → (x : Judged) × ((x.i ≡ i + 1) × (x.kept ≡ judges i before (get_or list i none)) × (x.before ≡ to_z w64 (of_z w64 (get_or list i none).second)))
   judged-next a i kept before ei ek eb e s o =
       let second = subst (λ (k : ℕ). mag (get_or list k none).second < 2 ^ 63) (sym ei) s in
-      let offset = subst (λ (k : ℕ). mag (get_or list k none).offset < 2 ^ 31) (sym ei) o in
-      (
+      let offset = subst (λ (k : ℕ). mag (get_or list k none).offset < 2 ^ 31) (sym ei) o in (
         judged-more a ((λ j. ek j && ltb (ei j) (length list)) ∙ e),
         (
           ap (λ (k : ℕ). k + 1) ei,

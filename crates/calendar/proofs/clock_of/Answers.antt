@@ -1,5 +1,4 @@
 -- `calendar::clock_of` meets its contract: of a shown time by its count, else by the f64 operations. Assumes nothing.
-use borrow.Author.Rules.{rules}
 use mathlib.Core.Path.{◌≡◌, ap, ◌∙◌}
 use Prim.Native.Nat.{ℕ}
 use lib.Ieee.{Float, binary64, div, of_bits, of_int, to_unsigned}

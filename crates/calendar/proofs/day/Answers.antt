@@ -1,5 +1,4 @@
 -- `calendar::day` meets its contract. Assumes nothing.
-use borrow.Author.Rules.{rules}
 use lib.Ieee.{of_bits, of_int}
 use Rattle.calendar.specs.Calendar.{day_f}
 use Rattle.calendar.proofs.day.Goals as goal

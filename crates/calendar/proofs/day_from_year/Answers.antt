@@ -1,5 +1,4 @@
 -- `calendar::day_from_year` meets its contract: each quotient is the floor that the definition has. Assumes nothing.
-use borrow.Author.Rules.{rules}
 use lib.Ieee.{binary64, add, sub, mul, of_bits, of_int}
 use Rattle.calendar.specs.Calendar.{num, day_from_year_f}
 use Rattle.calendar.proofs.day_from_year.Goals as goal

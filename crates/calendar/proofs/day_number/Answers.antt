@@ -1,5 +1,4 @@
 -- `calendar::day_number` meets its contract: MakeDay of a month within its year is the first of the month and the date. Assumes nothing.
-use borrow.Author.Rules.{rules}
 use mathlib.Core.Path.{◌≡◌, sym, ap, ap₂, subst, ◌∙◌}
 use Prim.Native.Nat.{ℕ, ◌≤◌}
 use native.Mathlib.Omega.{arith}

@@ -1,5 +1,4 @@
 -- `calendar::day_of` meets its contract: the days counted, less the count of day 0. Assumes nothing.
-use borrow.Author.Rules.{rules}
 use mathlib.Core.Path.{◌≡◌, sym, ap, subst, ◌∙◌}
 use Prim.Native.Nat.{◌/◌, ◌≤◌}
 use native.Mathlib.Omega.{arith}

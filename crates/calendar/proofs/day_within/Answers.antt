@@ -1,6 +1,5 @@
 -- `calendar::day_within` meets its contract: of a shown time and a near year the difference is exact, and kept within the range as by a cast.
 -- Assumes nothing.
-use borrow.Author.Rules.{rules}
 use mathlib.Core.Path.{◌≡◌, ap, ◌∙◌}
 use Prim.Native.Nat.{◌≤◌}
 use native.Mathlib.Omega.{arith}

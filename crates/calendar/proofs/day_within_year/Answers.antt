@@ -1,5 +1,4 @@
 -- `calendar::day_within_year` meets its contract. Assumes nothing.
-use borrow.Author.Rules.{rules}
 use mathlib.Core.Path.{ap, ◌∙◌}
 use lib.IntN.{ℤ}
 use Rattle.integers.proofs.Machine.{kept}

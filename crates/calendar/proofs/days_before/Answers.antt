@@ -1,5 +1,4 @@
 -- `calendar::days_before` meets its contract. Assumes nothing.
-use borrow.Author.Rules.{rules}
 use Rattle.calendar.proofs.Table.{entries, entry}
 use Rattle.calendar.proofs.days_before.Goals as goal
 

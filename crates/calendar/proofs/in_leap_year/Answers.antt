@@ -1,5 +1,4 @@
 -- `calendar::in_leap_year` meets its contract. Assumes nothing.
-use borrow.Author.Rules.{rules}
 use mathlib.Core.Path.{ap, ◌∙◌}
 use Rattle.integers.proofs.Machine.{kept}
 use Rattle.calendar.specs.Calendar.{leap_f, in_leap_year_f}

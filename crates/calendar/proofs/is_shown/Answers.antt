@@ -1,5 +1,4 @@
 -- `calendar::is_shown` meets its contract. Assumes nothing.
-use borrow.Author.Rules.{rules}
 use lib.Ieee.{of_bits, of_int}
 use Rattle.calendar.proofs.is_shown.Goals as goal
 

@@ -1,5 +1,4 @@
 -- `calendar::leap` meets its contract: the rule of the counted year, which is that of the year. Assumes nothing.
-use borrow.Author.Rules.{rules}
 use mathlib.Core.Path.{◌≡◌, refl, ap, ◌∙◌}
 use mathlib.Core.Bool.{true, false}
 use Prim.Native.Nat.{◌+◌, ◌*◌}

@@ -1,5 +1,4 @@
 -- `calendar::leap_flag` meets its contract: of a near year by the rule in whole numbers, else by the days of the year. Assumes nothing.
-use borrow.Author.Rules.{rules}
 use mathlib.Core.Path.{◌≡◌, sym, ap, subst, ◌∙◌}
 use mathlib.Core.Bool.{cond}
 use Prim.Native.Nat.{ℕ, ◌≤◌}

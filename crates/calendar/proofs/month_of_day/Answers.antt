@@ -1,5 +1,4 @@
 -- `calendar::month_of_day` meets its contract. Assumes nothing.
-use borrow.Author.Rules.{rules}
 use borrow.Author.Tests.{lt-ltb, le-ltb}
 use mathlib.Core.Path.{sym, ap, ◌∙◌, subst}
 use mathlib.Core.Bool.{cond}

@@ -1,5 +1,4 @@
 -- `calendar::starts_after` meets its contract: of a shown time and a near year the days are compared. Assumes nothing.
-use borrow.Author.Rules.{rules}
 use mathlib.Core.Path.{ap, ◌∙◌}
 use Prim.Native.Nat.{◌≤◌}
 use lib.IntN.{ℤ, pos, nat_abs}

@@ -1,5 +1,4 @@
 -- `calendar::time_from_year` meets its contract. Assumes nothing.
-use borrow.Author.Rules.{rules}
 use mathlib.Core.Path.{ap}
 use lib.Ieee.{Float, binary64, mul, of_bits, of_int}
 use Rattle.calendar.specs.Calendar.{num, time_from_year_f}

@@ -1,5 +1,4 @@
 -- `calendar::time_within_day` meets its contract. Assumes nothing.
-use borrow.Author.Rules.{rules}
 use lib.Ieee.{of_bits, of_int}
 use Rattle.calendar.specs.Calendar.{time_within_day_f}
 use Rattle.calendar.proofs.time_within_day.Goals as goal

@@ -1,5 +1,4 @@
 -- `calendar::week_day` meets its contract: of a shown time by its count, else by the f64 operations. Assumes nothing.
-use borrow.Author.Rules.{rules}
 use mathlib.Core.Path.{ap, ◌∙◌}
 use lib.Ieee.{Float, binary64, add, of_bits, of_int, to_unsigned}
 use Rattle.float.specs.Rounding.{rem_euclid_f}

@@ -1,6 +1,5 @@
 -- `calendar::wrap_i32` meets its contract: one step of 2^32 brings a number that is little out of range back into it. Assumes nothing.
 use mathlib.Core.Path.{◌≡◌, sym, ap, ◌∙◌, subst}
-use Prim.Native.Nat.{◌+◌}
 use lib.IntN.{ℤ, pos, negsuc, ◌+ℤ◌, ◌-ℤ◌}
 use lib.Signed.{◌≤ℤ◌, ◌<ℤ◌}
 use mir.Syntax.{w32, w64}

@@ -1,8 +1,6 @@
 -- `calendar::year_from_time` meets its contract: the estimate, less the bit of the test. Assumes nothing.
-use borrow.Author.Rules.{rules}
 use mathlib.Core.Path.{◌≡◌, refl, sym, ap, ◌∙◌, subst}
 use mathlib.Core.Bool.{Bool, true, false, cond}
-use mathlib.Core.Logic.{⊎_elim}
 use Prim.Native.Nat.{◌<◌}
 use mir.Syntax.{w32, w64}
 use mir.Val.{SFits, to_z, of_z}

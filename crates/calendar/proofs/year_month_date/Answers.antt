@@ -1,6 +1,5 @@
 -- `calendar::year_month_date` meets its contract: of the year, the leap day and the day of the year follow the month, and the date as the day
 -- of the year less those before its month. Assumes nothing.
-use borrow.Author.Rules.{rules}
 use mathlib.Core.Path.{◌≡◌, refl, sym, ap, ap₂, ◌∙◌, subst}
 use Prim.Native.Nat.{ℕ, ◌+◌, ◌-◌, ◌%◌, ◌≤◌, ◌<◌}
 use native.Mathlib.Omega.{arith}

@@ -1,10 +1,7 @@
 -- `datelines::feed` meets its contract. The loop's invariant: the output and the open line are those of the first i bytes of the chunk. The
 -- measure is what is left of the chunk. Assumes nothing.
-use mathlib.Core.Path.{◌≡◌, refl, ◌∙◌}
-use Prim.Native.Nat.{◌-◌, ◌≤◌}
+use mathlib.Core.Path.{refl, ◌∙◌}
 use native.Mathlib.Omega.{arith}
-use lib.ListN.{length, take}
-use Rattle.datelines.specs.Lines.{emitted, left, lent, Appends}
 use Rattle.datelines.proofs.Bytes.{start, start-open, start-bytes, all-puts, all-open, all-bytes, more-puts, more-open, more_bytes, puts-room, chunk-room}
 use Rattle.datelines.proofs.feed.Goals as goal
 
@@ -32,8 +29,7 @@ pub loop-i-preserved : goal.loop-i-preserved
 loop-i-preserved c =
     let t = c.take_in-f in
     let m = c.loop-i-test.true in
-    let v = c.loop-i.invariant in
-    (
+    let v = c.loop-i.invariant in (
       omega (arith, m),
       t.ensures.few,
       t.auto.line ∙ v.2,

@@ -1,11 +1,9 @@
 -- `datelines::feed` meets its contract. The loop's invariant: the output and the open line are those of the first i bytes of the chunk. The
 -- measure is what is left of the chunk. Assumes nothing.
-use mathlib.Core.Path.{◌≡◌, refl, ◌∙◌}
+use mathlib.Core.Path.{◌≡◌}
 use Prim.Native.Nat.{◌-◌, ◌≤◌}
-use native.Mathlib.Omega.{arith}
 use lib.ListN.{length, take}
 use Rattle.datelines.specs.Lines.{emitted, left, lent, Appends}
-use Rattle.datelines.proofs.Bytes.{start, start-open, start-bytes, all-puts, all-open, all-bytes, more-puts, more-open, more_bytes, puts-room, chunk-room}
 use Rattle.datelines.proofs.feed.Given as goal
 
 abbrev pub invariant-loop-i : goal.invariant-loop-i

@@ -1,5 +1,4 @@
 -- `datelines::finish` meets its contract. Assumes nothing.
-use borrow.Author.Rules.{rules}
 use Rattle.datelines.proofs.Runs.{none, puts-as}
 use Rattle.datelines.proofs.Streams.{last_none, last_some}
 use Rattle.datelines.proofs.finish.Goals as goal

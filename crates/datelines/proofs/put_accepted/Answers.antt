@@ -1,5 +1,4 @@
 -- `datelines::put_accepted` meets its contract: five runs, one behind the other. Assumes nothing.
-use borrow.Author.Rules.{rules}
 use mathlib.Core.Path.{refl, ap, ◌∙◌}
 use native.Mathlib.Omega.{arith}
 use lib.Ieee.{to_signed}

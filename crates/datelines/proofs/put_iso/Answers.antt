@@ -1,5 +1,4 @@
 -- `datelines::put_iso` meets its contract: the ISO writer answers the text of a time of the range, and nothing else. Assumes nothing.
-use borrow.Author.Rules.{rules}
 use mathlib.Core.Path.{◌≡◌}
 use Prim.Native.Nat.{ℕ}
 use native.Mathlib.Omega.{arith}

@@ -1,5 +1,4 @@
 -- `datelines::put_line` meets its contract: the reader's answer by cases. Assumes nothing.
-use borrow.Author.Rules.{rules}
 use mathlib.Core.Path.{sym, ap, ◌∙◌}
 use native.Mathlib.Omega.{arith}
 use Rattle.datelines.specs.Lines.{refused_line}

@@ -1,5 +1,4 @@
 -- `datelines::put_refused` meets its contract. Assumes nothing.
-use borrow.Author.Rules.{rules}
 use mathlib.Core.Path.{refl}
 use native.Mathlib.Omega.{arith}
 use Rattle.datelines.specs.Lines.{refused_line}

@@ -1,5 +1,4 @@
 -- `datelines::put_signed` meets its contract: the sign, and behind it the magnitude. Assumes nothing.
-use borrow.Author.Rules.{rules}
 use mathlib.Core.Path.{refl, sym, ap, ◌∙◌}
 use mathlib.Core.List.{◌++◌}
 use Rattle.ecma262.specs.Texts.{ascii}

@@ -1,5 +1,4 @@
 -- `datelines::take_in` meets its contract, by the byte: a newline, a byte that is kept, a byte past the 33. Assumes nothing.
-use borrow.Author.Rules.{rules}
 use mathlib.Core.Path.{sym}
 use native.Mathlib.Omega.{arith}
 use lib.Seq.{length-take-le}

@@ -1,5 +1,4 @@
 -- `exports::exports_zone_accepted` meets its contract. Assumes nothing.
-use borrow.Author.Rules.{rules}
 use mathlib.Core.Path.{sym, ◌∙◌}
 use Rattle.exports.proofs.Lists.{refused, accepted}
 use Rattle.exports.proofs.exports_zone_accepted.Goals as goal

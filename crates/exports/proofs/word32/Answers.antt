@@ -1,5 +1,4 @@
 -- `exports::word32` meets its contract. Assumes nothing.
-use borrow.Author.Rules.{rules}
 use mathlib.Core.Path.{ap, ◌∙◌}
 use mir.Facts.{to_z-of_z, sfits_widen, sfits_to_z, Fits-of_z}
 use Rattle.exports.specs.Inner.{word}

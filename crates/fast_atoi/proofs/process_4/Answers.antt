@@ -1,5 +1,4 @@
 -- `process_4` computes what `join4` says of any block. Assumes nothing.
-use Rattle.std.proofs.Common.{rules}
 use Rattle.fast_atoi.specs.Inner.{join4, pairs4}
 use Rattle.fast_atoi.proofs.process_4.Goals as goal
 

@@ -1,5 +1,4 @@
 -- `process_8` computes what `join8` says of any block. Assumes nothing.
-use Rattle.std.proofs.Common.{rules}
 use Rattle.fast_atoi.specs.Inner.{join8, fours8, pairs8}
 use Rattle.fast_atoi.proofs.process_8.Goals as goal
 

@@ -1,5 +1,5 @@
 -- `wrapping_mul_u32` is the product modulo 2^32. Assumes nothing.
-use Rattle.std.proofs.Common.{◌/◌, ◌%◌, sym, ◌∙◌, div-add-mod', arith, rules}
+use Rattle.std.proofs.Common.{◌/◌, ◌%◌, sym, ◌∙◌, div-add-mod', arith}
 use Rattle.fast_atoi.proofs.Halves.{halves, below}
 use Rattle.fast_atoi.proofs.wrapping_mul_u32.Goals as goal
 

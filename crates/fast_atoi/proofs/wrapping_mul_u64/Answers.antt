@@ -1,5 +1,5 @@
 -- `wrapping_mul_u64` is the product modulo 2^64. Assumes nothing.
-use Rattle.std.proofs.Common.{◌/◌, ◌%◌, sym, ◌∙◌, div-add-mod', arith, rules}
+use Rattle.std.proofs.Common.{◌/◌, ◌%◌, sym, ◌∙◌, div-add-mod', arith}
 use Rattle.fast_atoi.proofs.Halves.{halves, below}
 use Rattle.fast_atoi.proofs.wrapping_mul_u64.Goals as goal
 

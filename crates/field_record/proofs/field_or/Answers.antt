@@ -1,5 +1,4 @@
 -- `field_record::field_or` meets its contract: a field that stands is read at its place, and the next one's place follows it. Assumes nothing.
-use borrow.Author.Rules.{rules}
 use mathlib.Core.Path.{◌≡◌, sym, ap, ◌∙◌}
 use Prim.Native.Nat.{◌/◌, ◌%◌, ◌^◌}
 use native.Mathlib.Omega.{arith}

@@ -1,9 +1,6 @@
 -- `fields::build` meets its contract: the rows, and past them the original's steps. Assumes nothing.
-use borrow.Author.Rules.{rules}
-use borrow.Author.Tests.{not-true, not-false}
 use mathlib.Core.Path.{◌≡◌, sym, ap, ◌∙◌}
 use mathlib.Core.Bool.{true, not, ◌&&◌}
-use lib.Dec.{lit<}
 use lib.Ieee.{Float, binary64, to_bits}
 use Rattle.zone.specs.Zone.{accepts, records}
 use Rattle.new_date.specs.Calls.{value_out, value_from}

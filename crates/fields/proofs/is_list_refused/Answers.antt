@@ -1,5 +1,4 @@
 -- `fields::is_list_refused` meets its contract. Assumes nothing.
-use borrow.Author.Rules.{rules}
 use Rattle.fields.proofs.is_list_refused.Goals as goal
 
 pub returns-then-local : goal.returns-then-local

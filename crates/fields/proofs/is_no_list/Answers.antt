@@ -1,5 +1,4 @@
 -- `fields::is_no_list` meets its contract. Assumes nothing.
-use borrow.Author.Rules.{rules}
 use mathlib.Core.Path.{ap}
 use mathlib.Core.Bool.{not}
 use Rattle.fields.proofs.is_no_list.Goals as goal

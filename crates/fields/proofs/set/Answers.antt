@@ -1,6 +1,4 @@
 -- `fields::set` meets its contract: the rows from the top down, and past them the original's steps from where the setter starts. Assumes nothing.
-use borrow.Author.Rules.{rules}
-use borrow.Author.Tests.{not-true, not-false}
 use mathlib.Core.Path.{◌≡◌, sym, ap, ◌∙◌}
 use mathlib.Core.Bool.{true, not, ◌&&◌}
 use Prim.Native.Nat.{ℕ}
@@ -11,7 +9,7 @@ use Rattle.new_date.specs.Calls.{set, bits_of, new_date_of, value_out, value_fro
 use Rattle.field_record.specs.FieldRecord.{has_length, has_other_bit}
 use Rattle.answer.specs.declared.Reply.TheVariants as reply
 use Rattle.fields.specs.Outcome.{is_refused, start_of, set_outcome}
-use Rattle.fields.proofs.Rows.{listed, bits-few}
+use Rattle.fields.proofs.Rows.{listed}
 use Rattle.fields.proofs.set.Goals as goal
 use Rattle.fields.proofs.set.Goals.{After-has_other_bit, After-is_list_refused, After-is_refused, Else-is_refused, Else-not-has_length}
 

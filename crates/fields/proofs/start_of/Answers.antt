@@ -1,5 +1,4 @@
 -- `fields::start_of` meets its contract, by the time value that was matched. Assumes nothing.
-use borrow.Author.Rules.{rules}
 use Rattle.float.proofs.Special.{made-nan}
 use Rattle.fields.specs.Outcome.{start_of}
 use Rattle.fields.proofs.start_of.Goals as goal

@@ -1,5 +1,5 @@
 -- `float::abs` meets its contract: without its sign's bit, x's pattern is that of |x|. Assumes nothing.
-use Rattle.std.proofs.Common.{◌≡◌, T, sym, refl, ap, ◌∙◌, subst, rules}
+use Rattle.std.proofs.Common.{◌≡◌, T, sym, refl, ap, ◌∙◌, subst}
 use lib.Ieee.{Float, binary64, fits, of_bits}
 use Rattle.float.specs.Rounding.{abs_f}
 use Rattle.float.proofs.Patterns.{is-nan, is_number, no_nan, abs-bits, abs-number}

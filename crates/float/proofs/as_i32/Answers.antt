@@ -1,5 +1,5 @@
 -- `float::as_i32` meets its contract: `x as i64`, kept within the range. Assumes nothing.
-use Rattle.std.proofs.Common.{refl, ◌∙◌, arith, lit≤, to_z-of_z, rules}
+use Rattle.std.proofs.Common.{refl, ◌∙◌, arith, lit≤, to_z-of_z}
 use Rattle.float.proofs.Saturation.{signed_low, signed_high, signed-kept}
 use Rattle.float.proofs.as_i32.Goals as goal
 

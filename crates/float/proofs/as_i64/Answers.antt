@@ -1,6 +1,6 @@
 -- `float::as_i64` meets its contract: a whole number is itself, within the range the fraction is dropped, and beyond it the nearer end is returned.
 -- Assumes nothing.
-use Rattle.std.proofs.Common.{◌^◌, T, sym, ap, ◌∙◌, subst, lit≤, w64, rules}
+use Rattle.std.proofs.Common.{◌^◌, T, sym, ap, ◌∙◌, subst, lit≤, w64}
 use lib.Ieee.{binary64, fits, of_bits, of_int, neg, to_signed}
 use Rattle.integers.proofs.Machine.{kept}
 use Rattle.float.specs.Whole.{trunc_z, WholeWithin}

@@ -1,5 +1,5 @@
 -- `float::as_u8` meets its contract: `x as i64`, kept within the range. Assumes nothing.
-use Rattle.std.proofs.Common.{arith, lit≤, rules}
+use Rattle.std.proofs.Common.{arith, lit≤}
 use Rattle.float.proofs.Saturation.{unsigned-low, unsigned-high, unsigned-kept}
 use Rattle.float.proofs.as_u8.Goals as goal
 

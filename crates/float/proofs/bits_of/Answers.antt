@@ -1,5 +1,5 @@
 -- `float::bits_of` meets its contract: `to_bits` writes this pattern for `nan`. Assumes nothing.
-use Rattle.std.proofs.Common.{◌≡◌, sym, refl, subst, rules}
+use Rattle.std.proofs.Common.{◌≡◌, sym, refl, subst}
 use lib.Ieee.{Float, binary64, to_bits}
 use Rattle.float.proofs.Patterns.{is-nan, is_number}
 use Rattle.float.proofs.bits_of.Goals as goal

@@ -1,5 +1,5 @@
 -- `float::clear_low` meets its contract. What is shifted back is at most b, so nothing is lost. Assumes nothing.
-use Rattle.std.proofs.Common.{◌^◌, lt_of_le_of_lt, mod-eq_of_lt, div-mul-le_self, rules}
+use Rattle.std.proofs.Common.{◌^◌, lt_of_le_of_lt, mod-eq_of_lt, div-mul-le_self}
 use Rattle.float.proofs.clear_low.Goals as goal
 
 pub returns : goal.returns

@@ -1,5 +1,5 @@
 -- `float::floor_bits` meets its contract: each path returns what `Floor` says of the bit that is added to the whole part. Assumes nothing.
-use Rattle.std.proofs.Common.{◌≡◌, ℕ, ◌^◌, ◌<◌, sym, ap, ◌∙◌, subst, inl, inr, ⊎_elim, rules}
+use Rattle.std.proofs.Common.{◌≡◌, ℕ, ◌^◌, ◌<◌, sym, ap, ◌∙◌, subst, inl, inr}
 use lib.Ieee.{binary64, of_bits}
 use Rattle.float.specs.Inner.{fraction_bits}
 use Rattle.float.proofs.Clearing.{fraction, fraction-lt, Floor, floor-bits, Below, floor-kept, floor-one, floor-sum}

@@ -1,5 +1,5 @@
 -- `float::fraction_bits` meets its contract. Assumes nothing.
-use Rattle.std.proofs.Common.{◌≡◌, ℕ, ◌-◌, ◌≤◌, sym, ◌∙◌, arith, rules}
+use Rattle.std.proofs.Common.{◌≡◌, ℕ, ◌-◌, ◌≤◌, sym, ◌∙◌, arith}
 use Rattle.float.proofs.Clearing.{bits-low, bits-high}
 use Rattle.float.proofs.fraction_bits.Goals as goal
 

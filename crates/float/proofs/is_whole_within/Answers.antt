@@ -1,5 +1,5 @@
 -- `float::is_whole_within` meets its contract: a NaN equals nothing, and of any other the patterns are compared. Assumes nothing.
-use Rattle.std.proofs.Common.{◌≡◌, Bool, ◌&&◌, T, sym, ap, ◌∙◌, subst, rules}
+use Rattle.std.proofs.Common.{◌≡◌, Bool, ◌&&◌, T, sym, ap, ◌∙◌, subst}
 use mathlib.Core.Bool.{and-true, and-false}
 use lib.Ieee.{Float, nan, binary64, eq, le, fits}
 use Rattle.float.specs.Rounding.{trunc_f, abs_f, is_whole_within}

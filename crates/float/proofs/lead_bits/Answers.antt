@@ -1,5 +1,5 @@
 -- `float::lead_bits` meets its contract. Assumes nothing.
-use Rattle.std.proofs.Common.{ℕ, ◌+◌, ◌/◌, ◌%◌, ◌^◌, sym, ap, ◌∙◌, arith, rules}
+use Rattle.std.proofs.Common.{ℕ, ◌+◌, ◌/◌, ◌%◌, ◌^◌, sym, ap, ◌∙◌, arith}
 use lib.Bits.{and_mask}
 use Rattle.float.proofs.Digits.{lead-none, lead-some}
 use Rattle.float.proofs.lead_bits.Goals as goal

@@ -1,6 +1,5 @@
 -- `float::of_bits` meets its contract. Assumes nothing.
-use Rattle.std.proofs.Common.{ℕ, ◌<◌, ◌≤◌, sym, ◌∙◌, subst, rules}
-use lib.Ieee.{binary64}
+use Rattle.std.proofs.Common.{ℕ, ◌<◌, ◌≤◌, sym, ◌∙◌, subst}
 use Rattle.float.proofs.Special.{made-nan}
 use Rattle.float.proofs.Patterns.{nan-above, none_above}
 use Rattle.float.proofs.of_bits.Goals as goal

@@ -1,5 +1,5 @@
 -- `float::place_bits` meets its contract. Assumes nothing.
-use Rattle.std.proofs.Common.{ℕ, ◌-◌, ◌/◌, ◌%◌, ◌^◌, sym, ap, ◌∙◌, rules}
+use Rattle.std.proofs.Common.{ℕ, ◌-◌, ◌/◌, ◌%◌, ◌^◌, sym, ap, ◌∙◌}
 use Rattle.float.proofs.Digits.{place_none, place-some}
 use Rattle.float.proofs.place_bits.Goals as goal
 

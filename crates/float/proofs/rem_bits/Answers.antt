@@ -1,5 +1,5 @@
 -- `float::rem_bits` meets its contract. Assumes nothing.
-use Rattle.std.proofs.Common.{ℕ, ◌+◌, ◌-◌, ◌*◌, ◌/◌, ◌%◌, ◌^◌, ◌<◌, ◌≤◌, false, sym, ap, ◌∙◌, subst, lt_trans, lt_of_le_of_lt, mod-lt, div-le_self, arith, pow_pos, rules}
+use Rattle.std.proofs.Common.{ℕ, ◌+◌, ◌-◌, ◌*◌, ◌/◌, ◌%◌, ◌^◌, ◌<◌, ◌≤◌, false, sym, ap, ◌∙◌, subst, lt_trans, lt_of_le_of_lt, mod-lt, div-le_self, arith, pow_pos}
 use lib.Ieee.{binary64, of_bits, round}
 use Rattle.float.specs.Inner.{place}
 use Rattle.float.proofs.Clearing.{lead-lt}
@@ -77,11 +77,10 @@ within : (i j c : ℕ) → j ≤ i → c ≤ i - j → i ≤ 2045 → j + c ≤ 
 within i j c a b d = omega arith
 
 pub units_bits-requires : goal.units_bits-requires
-units_bits-requires c =
-    (
-      subst (λ (z : ℕ). z < 2 ^ 53) (sym c.shifted_rem.ensures) (lt_trans (mod-lt (m (p c.before) % w c.before * 2 ^ (i (p c.before) - j (p c.before) - c.low_zeros-c.result)) (w-pos c.before)) (w-lt c.before)),
-      within (i (p c.before)) (j (p c.before)) c.low_zeros-c.result c.if-i-j.false c.low_zeros-c.ensures.0 (i-le (p c.before)),
-    )
+units_bits-requires c = (
+  subst (λ (z : ℕ). z < 2 ^ 53) (sym c.shifted_rem.ensures) (lt_trans (mod-lt (m (p c.before) % w c.before * 2 ^ (i (p c.before) - j (p c.before) - c.low_zeros-c.result)) (w-pos c.before)) (w-lt c.before)),
+  within (i (p c.before)) (j (p c.before)) c.low_zeros-c.result c.if-i-j.false c.low_zeros-c.ensures.0 (i-le (p c.before)),
+)
 
 pub returns : goal.returns
 returns c =

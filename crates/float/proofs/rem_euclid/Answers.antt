@@ -1,5 +1,5 @@
 -- `float::rem_euclid` meets its contract: each arm returns what `cond` picks. Assumes nothing.
-use Rattle.std.proofs.Common.{◌≡◌, Bool, true, false, cond, sym, ap, ◌∙◌, ap₂, rules}
+use Rattle.std.proofs.Common.{◌≡◌, Bool, true, false, cond, sym, ap, ◌∙◌, ap₂}
 use lib.Ieee.{Float, binary64, rem, add, lt, of_bits}
 use Rattle.float.specs.Rounding.{abs_f, rem_euclid_f}
 use Rattle.float.proofs.rem_euclid.Goals as goal

@@ -1,5 +1,5 @@
 -- `float::remainder` meets its contract. Assumes nothing.
-use Rattle.std.proofs.Common.{◌≡◌, ℕ, ◌*◌, ◌/◌, ◌%◌, ◌^◌, ◌<◌, not, T, sym, refl, ap, ◌∙◌, subst, ap₂, arith, rules}
+use Rattle.std.proofs.Common.{◌≡◌, ℕ, ◌*◌, ◌/◌, ◌%◌, ◌^◌, ◌<◌, not, T, sym, refl, ap, ◌∙◌, subst, ap₂, arith}
 use lib.Ieee.{Float, binary64, fits, is_nan, rem, of_bits, to_bits}
 use Rattle.float.specs.Inner.{lead, place}
 use Rattle.float.proofs.Special.{made-nan}

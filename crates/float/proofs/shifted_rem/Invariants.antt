@@ -1,7 +1,5 @@
 -- `float::shifted_rem` meets its contract. The invariant: r is below n, and r * 2 ^ k has the remainder that is asked for. The measure is k. Assumes nothing.
-use Rattle.std.proofs.Common.{◌≡◌, ℕ, ◌-◌, ◌*◌, ◌%◌, ◌^◌, ◌<◌, sym, refl, ap, ◌∙◌, lt_of_le_of_lt, mod-lt, mod-eq_of_lt, mul-one, arith}
-use lib.Count.{count_leading_zeros}
-use Rattle.float.proofs.Digits.{leading-room, step, less-shift}
+use Rattle.std.proofs.Common.{◌≡◌, ◌*◌, ◌%◌, ◌^◌, ◌<◌}
 use Rattle.float.proofs.shifted_rem.Given as goal
 
 abbrev pub invariant-loop-k : goal.invariant-loop-k

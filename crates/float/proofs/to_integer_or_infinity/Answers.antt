@@ -1,5 +1,5 @@
 -- `float::to_integer_or_infinity` meets its contract. Assumes nothing.
-use Rattle.std.proofs.Common.{T, sym, ap, ◌∙◌, subst, rules}
+use Rattle.std.proofs.Common.{T, sym, ap, ◌∙◌, subst}
 use lib.Ieee.{Float, binary64, fits, eq, of_bits}
 use Rattle.float.specs.Rounding.{to_integer_or_infinity}
 use Rattle.float.proofs.Patterns.{is-nan, is_number}

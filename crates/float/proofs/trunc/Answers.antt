@@ -1,5 +1,5 @@
 -- `float::trunc` meets its contract: a NaN is returned as it came, and of any other the pattern is worked out by `trunc_bits`. Assumes nothing.
-use Rattle.std.proofs.Common.{◌≡◌, T, sym, refl, ap, ◌∙◌, subst, rules}
+use Rattle.std.proofs.Common.{◌≡◌, T, sym, refl, ap, ◌∙◌, subst}
 use lib.Ieee.{Float, binary64, fits, of_bits}
 use Rattle.float.specs.Rounding.{trunc_f}
 use Rattle.float.proofs.Patterns.{is-nan, is_number, no_nan, bits_back}

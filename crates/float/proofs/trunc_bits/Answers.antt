@@ -1,5 +1,5 @@
 -- `float::trunc_bits` meets its contract. Assumes nothing.
-use Rattle.std.proofs.Common.{◌≡◌, ℕ, ◌<◌, sym, ap, ◌∙◌, subst, rules}
+use Rattle.std.proofs.Common.{◌≡◌, ℕ, ◌<◌, sym, ap, ◌∙◌, subst}
 use lib.Ieee.{binary64, of_bits}
 use Rattle.float.specs.Inner.{fraction_bits}
 use Rattle.float.proofs.Clearing.{cut, fraction, fraction-lt, trunc-bits}

@@ -1,5 +1,5 @@
 -- `float::units_bits` meets its contract. Assumes nothing.
-use Rattle.std.proofs.Common.{◌≡◌, ◌+◌, ◌-◌, ◌*◌, ◌%◌, ◌^◌, ap, ◌∙◌, arith, lit<, rules}
+use Rattle.std.proofs.Common.{◌≡◌, ◌+◌, ◌-◌, ◌*◌, ◌%◌, ◌^◌, ap, ◌∙◌, arith, lit<}
 use lib.Ieee.{binary64, of_bits}
 use Rattle.float.proofs.Digits.{shifted, unshifted, plain, none-at}
 use Rattle.float.proofs.units_bits.Goals as goal

@@ -3,7 +3,6 @@ use native.Mathlib.Omega.{arith}
 use lib.IntN.{pos}
 use lib.Signed.{◌<ℤ◌, yes_non_neg}
 use mir.Facts.{to_z-of_z, Fits-nat_abs}
-use borrow.Author.Rules.{rules}
 use Rattle.integers.proofs.Machine.{below-zero, from_zero, flip-nonneg, flip-fits}
 use Rattle.float_test.proofs.bits.Goals as goal
 use Rattle.float_test.proofs.bits.Goals.{Then-z-lt0}

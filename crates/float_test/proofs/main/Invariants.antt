@@ -1,5 +1,4 @@
 -- `float_test::main` is safe and ends. Assumes nothing.
-use borrow.Author.Rules.{rules}
 use Prim.Native.Nat.{◌≤◌, ◌-◌}
 use Rattle.float_test.proofs.main.Given as goal
 
@@ -8,4 +7,5 @@ invariant-loop-turns l = l.turns ≤ 65536
 
 abbrev pub decreases-loop-turns : goal.decreases-loop-turns
 decreases-loop-turns l = 65536 - l.turns
+
 -- LOOPS [[["loop", "loop-turns"], ["turns"]]]

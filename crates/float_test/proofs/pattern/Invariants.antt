@@ -1,5 +1,4 @@
 -- `float_test::pattern` is safe: i is at most 16. Assumes nothing.
-use borrow.Author.Rules.{rules}
 use Prim.Native.Nat.{◌≤◌, ◌-◌}
 use Rattle.float_test.proofs.pattern.Given as goal
 
@@ -8,4 +7,5 @@ invariant-loop-i l = (l.at ≤ 18) × (l.i ≤ 16)
 
 abbrev pub decreases-loop-i : goal.decreases-loop-i
 decreases-loop-i l = 16 - l.i
+
 -- LOOPS [[["loop", "loop-i"], ["line", "at", "n", "i"]]]

@@ -1,5 +1,4 @@
 -- `float_test::wide` is safe. Assumes nothing.
-use borrow.Author.Rules.{rules}
 use mir.Facts.{sfits_widen, sfits_to_z, Fits-of_z}
 use Rattle.float_test.proofs.wide.Goals as goal
 

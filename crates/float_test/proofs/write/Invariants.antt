@@ -1,5 +1,4 @@
 -- `float_test::write` is safe: i is at most 16. Assumes nothing.
-use borrow.Author.Rules.{rules}
 use Prim.Native.Nat.{◌≤◌, ◌-◌}
 use mathlib.Core.Path.{◌≡◌}
 use lib.ListN.{length}
@@ -10,4 +9,5 @@ invariant-loop-i l = (l.i ≤ 16) × (length l.out ≡ 17)
 
 abbrev pub decreases-loop-i : goal.decreases-loop-i
 decreases-loop-i l = 16 - l.i
+
 -- LOOPS [[["loop", "loop-i"], ["n", "end", "out", "i"]]]

@@ -5,7 +5,6 @@ use native.Mathlib.Nat.{add-zero}
 use native.Mathlib.Omega.{arith}
 use lib.ListN.{get_or}
 use Rattle.little_endian.specs.Bytes.{little_endian}
-use borrow.Author.Rules.{rules}
 use Rattle.little_endian.proofs.u32_at.Goals as goal
 
 pub returns : goal.returns

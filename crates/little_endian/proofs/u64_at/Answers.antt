@@ -1,7 +1,6 @@
 -- `little_endian::u64_at` meets its contract: eight bytes are four and, that much higher, four. Assumes nothing.
 use native.Mathlib.Omega.{arith}
 use Rattle.little_endian.proofs.Numbers.{little_endian-join}
-use borrow.Author.Rules.{rules}
 use Rattle.little_endian.proofs.u64_at.Goals as goal
 
 pub returns : goal.returns

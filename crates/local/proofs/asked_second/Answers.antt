@@ -1,6 +1,5 @@
 -- `local::asked_second` meets its contract: of a whole time that is small enough the original's operations are exact, so the quick way has
 -- their result. Assumes nothing.
-use borrow.Author.Rules.{rules}
 use mathlib.Core.Path.{◌≡◌, sym, ap, ◌∙◌, subst}
 use Prim.Native.Nat.{◌≤◌}
 use native.Mathlib.Omega.{arith}

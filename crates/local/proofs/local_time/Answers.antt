@@ -1,5 +1,4 @@
 -- `local::local_time` meets its contract. Assumes nothing.
-use borrow.Author.Rules.{rules}
 use mathlib.Core.Path.{ap, ◌∙◌}
 use lib.IntN.{ℤ}
 use lib.Ieee.{binary64, add, mul, of_bits, of_int}

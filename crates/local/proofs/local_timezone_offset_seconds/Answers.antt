@@ -1,5 +1,4 @@
 -- `local::local_timezone_offset_seconds` meets its contract. Assumes nothing.
-use borrow.Author.Rules.{rules}
 use mathlib.Core.Path.{ap, ◌∙◌}
 use mir.Syntax.{w32, w64}
 use Rattle.integers.proofs.Machine.{kept}

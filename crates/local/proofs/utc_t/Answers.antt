@@ -1,8 +1,6 @@
 -- `local::utc_t` meets its contract. Assumes nothing.
-use borrow.Author.Rules.{rules}
 use mathlib.Core.Path.{sym, ap, ◌∙◌}
 use lib.IntN.{ℤ}
-use borrow.Author.Tests.{not-true, not-false}
 use lib.Ieee.{binary64, sub, mul, div, of_bits, of_int}
 use mir.Syntax.{w32}
 use Rattle.integers.proofs.Machine.{kept}

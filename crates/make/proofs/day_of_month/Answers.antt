@@ -1,5 +1,4 @@
 -- `make::day_of_month` meets its contract. Assumes nothing.
-use borrow.Author.Rules.{rules}
 use mathlib.Core.Path.{sym, ap, ◌∙◌}
 use lib.Ieee.{binary64, add, sub, of_bits, of_int}
 use lib.Ieee.Scale.{finite}

@@ -1,5 +1,4 @@
 -- `make::is_own_value` meets its contract. Assumes nothing.
-use borrow.Author.Rules.{rules}
 use lib.Ieee.{of_bits, of_int}
 use Rattle.make.proofs.is_own_value.Goals as goal
 

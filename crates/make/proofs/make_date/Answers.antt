@@ -1,5 +1,4 @@
 -- `make::make_date` meets its contract: of a day or a time that is not finite the sum is not finite. Assumes nothing.
-use borrow.Author.Rules.{rules}
 use mathlib.Core.Path.{sym, ◌∙◌}
 use lib.Ieee.{of_bits, of_int}
 use Rattle.float.proofs.Special.{made-nan}

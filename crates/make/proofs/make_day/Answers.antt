@@ -1,10 +1,8 @@
 -- `make::make_day` meets its contract: of fields in the exact domain, with the month within its year, the integer is the whole number that the original's
 -- operations give, and elsewhere these are taken. The month that they look up is below 12, since the whole part of a finite month is a whole number.
 -- Assumes nothing.
-use borrow.Author.Rules.{rules}
 use mathlib.Core.Path.{◌≡◌, sym, ap, ◌∙◌, subst}
 use mathlib.Core.Bool.{Bool, true, ◌&&◌}
-use mathlib.Core.Logic.{⊎_elim}
 use Prim.Native.Nat.{◌^◌, ◌≤◌, ◌<◌}
 use native.Mathlib.Omega.{arith}
 use lib.Dec.{T, lit≤}
@@ -119,12 +117,11 @@ exact_i64-requires-then-is_within-3 c =
     taken c.whole_part-dt.ensures (date-in c.before.before) (date-size c.before.before)
 
 pub day_number-requires : goal.day_number-requires
-day_number-requires c =
-    (
-      omega (arith, ap nat_abs (year-read c.before), year-size c.before.before.before),
-      omega (arith, ap nat_abs (month-read c.before.before), month-size c.before.before.before),
-      omega (arith, ap nat_abs (date-read c), date-size c.before.before.before),
-    )
+day_number-requires c = (
+  omega (arith, ap nat_abs (year-read c.before), year-size c.before.before.before),
+  omega (arith, ap nat_abs (month-read c.before.before), month-size c.before.before.before),
+  omega (arith, ap nat_abs (date-read c), date-size c.before.before.before),
+)
 
 pub int_to_float-result : goal.int_to_float-result
 int_to_float-result c =
@@ -140,11 +137,11 @@ returns-then-not-is_finite c =
     let a = c.args in
     made-nan
     ∙ sym (elim c.then-not-is_finite.branch [
-      then-not-is_finite-via-then-not-is_finite w ↦ year-not-finite a.year a.month a.date (off c.is_finite.ensures w.if-not-is_finite.true)
-    | then-not-is_finite-via-else-not-is_finite+then-not-is_finite-2 w ↦
-        month-not-finite a.year a.month a.date (off w.is_finite-else-not-is_finite.ensures w.if-not-is_finite-2.true)
-    | then-not-is_finite-via-else-not-is_finite+else-not-is_finite-2+then-not-is_finite-3 w ↦
-        date-not-finite a.year a.month a.date (off w.is_finite-else-not-is_finite-2.ensures w.if-not-is_finite-3.true)
+      | then-not-is_finite-via-then-not-is_finite w ↦ year-not-finite a.year a.month a.date (off c.is_finite.ensures w.if-not-is_finite.true)
+      | then-not-is_finite-via-else-not-is_finite+then-not-is_finite-2 w ↦
+          month-not-finite a.year a.month a.date (off w.is_finite-else-not-is_finite.ensures w.if-not-is_finite-2.true)
+      | then-not-is_finite-via-else-not-is_finite+else-not-is_finite-2+then-not-is_finite-3 w ↦
+          date-not-finite a.year a.month a.date (off w.is_finite-else-not-is_finite-2.ensures w.if-not-is_finite-3.true)
     ])
 
 -- ---- the steps in f64, of finite fields

@@ -1,7 +1,5 @@
 -- `make::make_full_year` meets its contract. Assumes nothing.
-use borrow.Author.Rules.{rules}
 use mathlib.Core.Path.{sym, ap, ◌∙◌}
-use mathlib.Core.Logic.{⊎_elim}
 use lib.Ieee.{of_bits, of_int}
 use Rattle.float.proofs.Special.{nan-test}
 use Rattle.make.specs.Make.{full_year}
@@ -28,7 +26,7 @@ returns c =
     let y = c.args.year in
     let i = c.to_integer_or_infinity-truncated.result in
     sym (elim c.else-truncated.branch [
-      else-truncated-via-then-truncated+else-truncated-2 w ↦ full-year-above i w.if-truncated-2.false
-    | else-truncated-via-else-truncated w ↦ full-year-below i w.if-truncated.false
+      | else-truncated-via-then-truncated+else-truncated-2 w ↦ full-year-above i w.if-truncated-2.false
+      | else-truncated-via-else-truncated w ↦ full-year-below i w.if-truncated.false
     ])
     ∙ ap full_year c.to_integer_or_infinity-truncated.ensures ∙ sym (full-year-number y (sym (nan-test y) ∙ c.if-year.false))

@@ -1,7 +1,5 @@
 -- `make::make_time` meets its contract: a finite sum has only finite terms, and for any other sum the arguments are tested. Assumes nothing.
-use borrow.Author.Rules.{rules}
 use mathlib.Core.Path.{◌≡◌, sym, ap, ◌∙◌}
-use mathlib.Core.Logic.{⊎_elim}
 use lib.Ieee.{of_bits, of_int}
 use lib.Ieee.Scale.{finite}
 use Rattle.float.proofs.Special.{made-nan}
@@ -29,13 +27,13 @@ returns-then-not-is_finite c =
     let a = c.args in
     made-nan
     ∙ sym (elim c.then-not-is_finite.branch [
-      then-not-is_finite-via-then-not-is_finite w ↦ hour-not-finite a.hour a.min a.sec a.ms (off c.is_finite-2.ensures w.if-not-is_finite.true)
-    | then-not-is_finite-via-else-not-is_finite+then-not-is_finite-2 w ↦
-        minute-not-finite a.hour a.min a.sec a.ms (off w.is_finite-else-not-is_finite.ensures w.if-not-is_finite-2.true)
-    | then-not-is_finite-via-else-not-is_finite+else-not-is_finite-2+then-not-is_finite-3 w ↦
-        second-not-finite a.hour a.min a.sec a.ms (off w.is_finite-else-not-is_finite-2.ensures w.if-not-is_finite-3.true)
-    | then-not-is_finite-via-else-not-is_finite+else-not-is_finite-2+else-not-is_finite-3+then-not-is_finite-4 w ↦
-        milli-not-finite a.hour a.min a.sec a.ms (off w.is_finite-else-not-is_finite-3.ensures w.if-not-is_finite-4.true)
+      | then-not-is_finite-via-then-not-is_finite w ↦ hour-not-finite a.hour a.min a.sec a.ms (off c.is_finite-2.ensures w.if-not-is_finite.true)
+      | then-not-is_finite-via-else-not-is_finite+then-not-is_finite-2 w ↦
+          minute-not-finite a.hour a.min a.sec a.ms (off w.is_finite-else-not-is_finite.ensures w.if-not-is_finite-2.true)
+      | then-not-is_finite-via-else-not-is_finite+else-not-is_finite-2+then-not-is_finite-3 w ↦
+          second-not-finite a.hour a.min a.sec a.ms (off w.is_finite-else-not-is_finite-2.ensures w.if-not-is_finite-3.true)
+      | then-not-is_finite-via-else-not-is_finite+else-not-is_finite-2+else-not-is_finite-3+then-not-is_finite-4 w ↦
+          milli-not-finite a.hour a.min a.sec a.ms (off w.is_finite-else-not-is_finite-3.ensures w.if-not-is_finite-4.true)
     ])
 
 pub returns : goal.returns

@@ -1,5 +1,4 @@
 -- `make::month_of_year` meets its contract. Assumes nothing.
-use borrow.Author.Rules.{rules}
 use mathlib.Core.Path.{ap, ◌∙◌}
 use lib.Ieee.{of_bits, of_int, to_unsigned}
 use Rattle.make.specs.Make.{month_of_year}

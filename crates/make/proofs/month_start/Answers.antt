@@ -1,8 +1,6 @@
 -- `make::month_start` meets its contract. Assumes nothing.
-use borrow.Author.Rules.{rules}
 use mathlib.Core.Path.{◌≡◌, sym, ap, ◌∙◌}
 use mathlib.Core.Bool.{cond}
-use mathlib.Core.Logic.{⊎_elim}
 use Prim.Native.Nat.{ℕ}
 use borrow.Author.Tests.{lt-ltb, le-ltb}
 use lib.Ieee.{Float, binary64, add, sub, mul, of_bits, of_int}
@@ -18,8 +16,8 @@ unfolding of_bits of_int
 passed c =
     let mn = c.args.mn in
     elim c.if-mn-gt1.branch [
-      then-mn-gt1 w ↦ w.rest-is ∙ ap (λ b. num (cond b 1 0)) (sym (lt-ltb 1 mn w.if-mn-gt1.true))
-    | else-mn-gt1 w ↦ w.rest-is ∙ ap (λ b. num (cond b 1 0)) (sym (le-ltb 1 mn w.if-mn-gt1.false))
+      | then-mn-gt1 w ↦ w.rest-is ∙ ap (λ b. num (cond b 1 0)) (sym (lt-ltb 1 mn w.if-mn-gt1.true))
+      | else-mn-gt1 w ↦ w.rest-is ∙ ap (λ b. num (cond b 1 0)) (sym (le-ltb 1 mn w.if-mn-gt1.false))
     ]
 
 -- the month's start by its parts

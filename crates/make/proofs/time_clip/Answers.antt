@@ -1,5 +1,4 @@
 -- `make::time_clip` meets its contract. Assumes nothing.
-use borrow.Author.Rules.{rules}
 use mathlib.Core.Path.{sym, ap, ◌∙◌}
 use mathlib.Core.Bool.{cond}
 use lib.Ieee.{binary64, fits, lt, eq, of_bits, of_int}

@@ -1,5 +1,4 @@
 -- `make::whole_part` meets its contract: the three steps together are `trunc`, which leaves a whole number as it is. Assumes nothing.
-use borrow.Author.Rules.{rules}
 use mathlib.Core.Path.{sym, ap, ◌∙◌}
 use lib.Dec.{lit≤}
 use lib.Ieee.{Float, of_bits, of_int}

@@ -1,5 +1,4 @@
 -- `make::year_of_month` meets its contract. Assumes nothing.
-use borrow.Author.Rules.{rules}
 use mathlib.Core.Path.{ap}
 use lib.Ieee.{binary64, add, of_bits, of_int}
 use Rattle.make.specs.Make.{year_of_month}

@@ -1,5 +1,4 @@
 -- `new_date::built` meets its contract: the original's steps, in its order. Assumes nothing.
-use borrow.Author.Rules.{rules}
 use mathlib.Core.Path.{◌≡◌, ap, ◌∙◌}
 use lib.Ieee.{Float, of_bits, of_int}
 use Rattle.make.specs.Make.{make_time_f, make_day_f, make_date_f, make_full_year_f}

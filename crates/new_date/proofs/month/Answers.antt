@@ -1,5 +1,4 @@
 -- `new_date::month` meets its contract. Assumes nothing.
-use borrow.Author.Rules.{rules}
 use Rattle.new_date.specs.Calls.{absent, new_date, new_date_of}
 use Rattle.new_date.proofs.month.Goals as goal
 

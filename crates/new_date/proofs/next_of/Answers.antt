@@ -1,5 +1,4 @@
 -- `new_date::next_of` meets its contract: a given field does not depend on what an absent one stands for. Assumes nothing.
-use borrow.Author.Rules.{rules}
 use mathlib.Core.Path.{sym, ◌∙◌}
 use Rattle.field_record.specs.FieldRecord.{field_or}
 use Rattle.new_date.proofs.next_of.Goals as goal

@@ -1,5 +1,4 @@
 -- `new_date::or_zero` meets its contract. Assumes nothing.
-use borrow.Author.Rules.{rules}
 use mathlib.Core.Path.{sym, ◌∙◌}
 use lib.Ieee.{of_bits, of_int}
 use Rattle.new_date.specs.Calls.{or_zero}

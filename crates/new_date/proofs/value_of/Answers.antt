@@ -1,5 +1,4 @@
 -- `new_date::value_of` meets its contract. Assumes nothing.
-use borrow.Author.Rules.{rules}
 use mathlib.Core.Path.{ap, ◌∙◌}
 use lib.Ieee.{binary64, to_bits}
 use Rattle.make.specs.Make.{time_clip_f}

@@ -1,8 +1,7 @@
 -- `few_digits` reads as the definition does. The loop keeps a run: i digits are read, their number and the next place. Assumes nothing.
-use Prim.Native.Nat.{◌-◌}
 use borrow.Author.Rules.{rules}
 use native.Mathlib.Omega.{arith}
-use Rattle.parser.proofs.Runs.{Run, run_none, run-below, runs}
+use Rattle.parser.proofs.Runs.{run_none, run-below, runs}
 use Rattle.parser.proofs.few_digits.Goals as goal
 
 pub loop-i-init : goal.loop-i-init

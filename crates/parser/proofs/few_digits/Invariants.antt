@@ -1,8 +1,6 @@
 -- `few_digits` reads as the definition does. The loop keeps a run: i digits are read, their number and the next place. Assumes nothing.
 use Prim.Native.Nat.{◌-◌}
-use borrow.Author.Rules.{rules}
-use native.Mathlib.Omega.{arith}
-use Rattle.parser.proofs.Runs.{Run, run_none, run-below, runs}
+use Rattle.parser.proofs.Runs.{Run}
 use Rattle.parser.proofs.few_digits.Given as goal
 
 abbrev pub invariant-loop-i : goal.invariant-loop-i

@@ -1,7 +1,6 @@
 -- `next_n_ascii_digits` gathers the digits that the definition reads. The loop keeps their block, one byte more at each turn. Assumes nothing.
-use Prim.Native.Nat.{◌-◌}
 use borrow.Author.Rules.{rules}
-use Rattle.parser.proofs.Runs.{Gathered, gathered_none, gathered-room, runs, gathers}
+use Rattle.parser.proofs.Runs.{gathered_none, gathered-room, runs, gathers}
 use Rattle.parser.proofs.next_n_ascii_digits.Goals as goal
 
 pub loop-i-init : goal.loop-i-init

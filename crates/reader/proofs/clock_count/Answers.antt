@@ -1,5 +1,4 @@
 -- `reader::clock_count` meets its contract. Assumes nothing.
-use borrow.Author.Rules.{rules}
 use native.Mathlib.Omega.{arith}
 use Rattle.reader.proofs.clock_count.Goals as goal
 

@@ -1,5 +1,4 @@
 -- `reader::date_of` meets its contract. Assumes nothing.
-use borrow.Author.Rules.{rules}
 use mathlib.Core.Path.{refl}
 use Rattle.reader.proofs.date_of.Goals as goal
 

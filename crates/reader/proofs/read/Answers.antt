@@ -1,6 +1,4 @@
 -- `reader::read` meets its contract: each way is a case of the answer. Assumes nothing.
-use borrow.Author.Rules.{rules}
-use borrow.Author.Tests.{not-true, not-false}
 use mathlib.Core.Path.{◌≡◌, sym, ap, ◌∙◌}
 use mathlib.Core.Bool.{true}
 use mir.Syntax.{w64}
@@ -23,11 +21,10 @@ pub returns-then-not-accept : goal.returns-then-not-accept
 returns-then-not-accept c = list-refused _ _ (sym c.accept.ensures ∙ c.if-not-accept.true)
 
 pub instant_of-requires : goal.instant_of-requires
-instant_of-requires c =
-    (
-      accepts-sound _ (accepted (goal.at.instant_of-requires c).Else-not-accept),
-      (read-printed c.args.text.now (as_form c.in-Read.form) (sym c.parse_text.ensures ∙ ap as_reading c.in-Read.is)).bounds,
-    )
+instant_of-requires c = (
+  accepts-sound _ (accepted (goal.at.instant_of-requires c).Else-not-accept),
+  (read-printed c.args.text.now (as_form c.in-Read.form) (sym c.parse_text.ensures ∙ ap as_reading c.in-Read.is)).bounds,
+)
 
 pub returns-in-Refused : goal.returns-in-Refused
 returns-in-Refused c =

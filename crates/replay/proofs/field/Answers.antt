@@ -1,9 +1,5 @@
 -- `replay::field` meets its contract. Assumes nothing.
-use borrow.Author.Rules.{rules}
-use Prim.Native.Nat.{◌≤◌, ◌-◌}
-use mathlib.Core.Path.{◌≡◌}
 use native.Mathlib.Omega.{arith}
-use lib.ListN.{length}
 use Rattle.io.proofs.Counting.{prefix_len_of_le}
 use Rattle.replay.proofs.field.Goals as goal
 

@@ -1,10 +1,7 @@
 -- `replay::field` meets its contract. Assumes nothing.
-use borrow.Author.Rules.{rules}
 use Prim.Native.Nat.{◌≤◌, ◌-◌}
 use mathlib.Core.Path.{◌≡◌}
-use native.Mathlib.Omega.{arith}
 use lib.ListN.{length}
-use Rattle.io.proofs.Counting.{prefix_len_of_le}
 use Rattle.replay.proofs.field.Given as goal
 
 abbrev pub invariant-loop-i : goal.invariant-loop-i
@@ -12,4 +9,5 @@ invariant-loop-i l = (l.i ≤ length l.line) × (l.spaces ≤ l.i) × (l.n ≤ l
 
 abbrev pub decreases-loop-i : goal.decreases-loop-i
 decreases-loop-i l = length l.line - l.i
+
 -- LOOPS [[["loop", "loop-i"], ["line", "k", "bytes", "spaces", "n", "i"]]]

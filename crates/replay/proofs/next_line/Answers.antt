@@ -1,9 +1,6 @@
 -- `replay::next_line` meets its contract. Assumes nothing.
-use borrow.Author.Rules.{rules}
-use Prim.Native.Nat.{◌≤◌, ◌-◌}
-use mathlib.Core.Path.{◌≡◌}
 use native.Mathlib.Omega.{arith}
-use lib.ListN.{length, length-set}
+use lib.ListN.{length-set}
 use Rattle.io.proofs.Counting.{prefix_len_of_le}
 use Rattle.replay.proofs.next_line.Goals as goal
 

@@ -1,10 +1,7 @@
 -- `replay::next_line` meets its contract. Assumes nothing.
-use borrow.Author.Rules.{rules}
 use Prim.Native.Nat.{◌≤◌, ◌-◌}
 use mathlib.Core.Path.{◌≡◌}
-use native.Mathlib.Omega.{arith}
-use lib.ListN.{length, length-set}
-use Rattle.io.proofs.Counting.{prefix_len_of_le}
+use lib.ListN.{length}
 use Rattle.replay.proofs.next_line.Given as goal
 
 abbrev pub invariant-loop-n : goal.invariant-loop-n
@@ -12,4 +9,5 @@ invariant-loop-n l = (l.n ≤ length l.line) × (length l.line ≡ length l.init
 
 abbrev pub decreases-loop-n : goal.decreases-loop-n
 decreases-loop-n l = length l.line - l.n
+
 -- LOOPS [[["loop", "loop-n"], ["line", "n"]]]

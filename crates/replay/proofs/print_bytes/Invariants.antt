@@ -1,5 +1,4 @@
 -- `replay::print_bytes` meets its contract. Assumes nothing.
-use borrow.Author.Rules.{rules}
 use Prim.Native.Nat.{◌≤◌, ◌-◌}
 use lib.ListN.{length}
 use Rattle.replay.proofs.print_bytes.Given as goal
@@ -9,4 +8,5 @@ invariant-loop-i l = l.i ≤ length l.bytes
 
 abbrev pub decreases-loop-i : goal.decreases-loop-i
 decreases-loop-i l = length l.bytes - l.i
+
 -- LOOPS [[["loop", "loop-i"], ["bytes", "i"]]]

@@ -1,5 +1,4 @@
 -- `rewrite::rewrite` meets its contract: what follows the reading is the case of its answer. Assumes nothing.
-use borrow.Author.Rules.{rules}
 use mathlib.Core.Path.{◌≡◌, refl, sym, ◌∙◌, subst}
 use mathlib.Core.List.{List}
 use Prim.Native.Nat.{ℕ}

@@ -1,6 +1,5 @@
 -- `text::day_name` meets its contract: the table is the standard's, row by row. Assumes nothing.
 use mathlib.Core.Path.{refl}
-use borrow.Author.Rules.{rules}
 use Rattle.ecma262.specs.Texts.{day_name}
 use Rattle.text.proofs.day_name.Goals as goal
 

@@ -3,7 +3,6 @@ use mathlib.Core.Path.{◌≡◌, refl, ap, ◌∙◌}
 use Prim.Native.Nat.{◌+◌}
 use native.Mathlib.Omega.{arith}
 use lib.ListN.{length}
-use borrow.Author.Rules.{rules}
 use Rattle.ecma262.proofs.Texts.{length-iso}
 use Rattle.ecma262.specs.Texts.{iso_year}
 use Rattle.text.specs.Inner.{whole_of}

@@ -4,7 +4,6 @@ use mathlib.Core.Path.{◌≡◌, refl, ap, ◌∙◌}
 use Prim.Native.Nat.{◌+◌}
 use native.Mathlib.Omega.{arith}
 use lib.ListN.{length}
-use borrow.Author.Rules.{rules}
 use Rattle.ecma262.proofs.Texts.{length-local}
 use Rattle.ecma262.specs.Texts.{signed_year}
 use Rattle.text.specs.Inner.{whole_of}

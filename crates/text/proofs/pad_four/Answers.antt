@@ -1,7 +1,6 @@
 -- `text::pad_four` meets its contract: the digits of the quotient by 100 and of the remainder. Assumes nothing.
 use mathlib.Core.Path.{refl}
 use native.Mathlib.Omega.{arith}
-use borrow.Author.Rules.{rules}
 use Rattle.text.proofs.Runs.{puts-digits}
 use Rattle.text.proofs.pad_four.Goals as goal
 

@@ -1,7 +1,6 @@
 -- `text::put_name` meets its contract: three stores in a row. Assumes nothing.
 use mathlib.Core.Path.{refl, sym}
 use native.Mathlib.Omega.{arith}
-use borrow.Author.Rules.{rules}
 use Rattle.text.proofs.Runs.{puts-as, puts_then, three}
 use Rattle.text.proofs.put_name.Goals as goal
 

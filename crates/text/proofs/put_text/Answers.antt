@@ -1,10 +1,8 @@
 -- `text::put_text` meets its contract. The loop's invariant: the output is the first i bytes of the text, and behind them what stood there.
 -- The measure is what is left of the text. Assumes nothing.
-use mathlib.Core.List.{◌++◌}
-use mathlib.Core.Path.{◌≡◌, refl, ap, ◌∙◌}
-use Prim.Native.Nat.{◌+◌, ◌-◌, ◌≤◌}
+use mathlib.Core.Path.{refl, ap, ◌∙◌}
 use native.Mathlib.Omega.{arith}
-use lib.ListN.{length, take, drop, get_or, set, length-set}
+use lib.ListN.{get_or, set, length-set}
 use Rattle.text.proofs.Runs.{prints-none, copied_more, copied_all}
 use Rattle.text.proofs.put_text.Goals as goal
 
@@ -27,15 +25,14 @@ pub loop-i-smaller : goal.loop-i-smaller
 loop-i-smaller c = omega arith
 
 pub loop-i-preserved : goal.loop-i-preserved
-loop-i-preserved c =
-    (
-      refl,
-      omega arith,
-      omega arith,
-      simp length-set c.loop-i.invariant.3,
-      ap (λ o. set o c.loop-i.i (get_or c.args.text.now c.loop-i.i 0)) c.loop-i.invariant.4
-          ∙ copied_more c.args.text.now c.args.output.now c.loop-i.i (omega arith) (omega arith),
-    )
+loop-i-preserved c = (
+  refl,
+  omega arith,
+  omega arith,
+  simp length-set c.loop-i.invariant.3,
+  ap (λ o. set o c.loop-i.i (get_or c.args.text.now c.loop-i.i 0)) c.loop-i.invariant.4
+      ∙ copied_more c.args.text.now c.args.output.now c.loop-i.i (omega arith) (omega arith),
+)
 
 pub returns : goal.returns
 returns c =

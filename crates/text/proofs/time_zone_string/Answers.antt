@@ -2,7 +2,6 @@
 use mathlib.Core.List.{[], ◌∷◌}
 use mathlib.Core.Path.{◌≡◌, refl}
 use native.Mathlib.Omega.{arith}
-use borrow.Author.Rules.{rules}
 use Rattle.ecma262.proofs.Texts.{zone-text}
 use Rattle.ecma262.specs.Texts.{offset_sign}
 use Rattle.text.proofs.Runs.{puts-as, puts_then}

@@ -2,7 +2,6 @@
 use lib.IntN.{pos}
 use lib.Signed.{◌<ℤ◌, yes_non_neg}
 use mir.Facts.{to_z-of_z, Fits-nat_abs}
-use borrow.Author.Rules.{rules}
 use Rattle.integers.proofs.Machine.{below-zero, from_zero, flip-abs, flip-nonneg, flip-fits}
 use Rattle.text.proofs.unsigned_abs.Goals as goal
 use Rattle.text.proofs.unsigned_abs.Goals.{Then-x-lt0}

@@ -1,5 +1,4 @@
 -- `timevalue::time_value` meets its contract: each way through it is a case of `judged`, at the value of the bits. Assumes nothing.
-use borrow.Author.Rules.{rules}
 use mathlib.Core.Path.{◌≡◌, sym, ap, ◌∙◌}
 use mathlib.Core.Bool.{Bool, true, false}
 use lib.IntN.{pos}

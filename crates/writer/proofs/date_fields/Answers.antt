@@ -1,5 +1,4 @@
 -- `writer::date_fields` meets its contract: each function of the calendar gives ECMA-262's field of a whole time. Assumes nothing.
-use borrow.Author.Rules.{rules}
 use mathlib.Core.Path.{◌≡◌, ap, ◌∙◌}
 use lib.IntN.{ℤ}
 use mir.Syntax.{w32}

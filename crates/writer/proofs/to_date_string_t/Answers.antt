@@ -1,5 +1,4 @@
 -- `writer::to_date_string_t` meets its contract. Assumes nothing.
-use borrow.Author.Rules.{rules}
 use mathlib.Core.Path.{ap, ◌∙◌}
 use Prim.Native.Nat.{ℕ}
 use Rattle.writer.specs.Inner.{IsShown, replied}
@@ -16,11 +15,10 @@ pub date_fields-requires : goal.date_fields-requires
 date_fields-requires c = shown (goal.at.date_fields-requires c).After-local_time-t
 
 pub local_string-printed-requires : goal.local_string-printed-requires
-local_string-printed-requires c =
-    (
-      fields-printable c.date_fields.ensures (shown (goal.at.local_string-printed-requires c).After-local_time-t).shown,
-      offset-printable c.args.zone.now c.requires.1 c.requires.0 c.local_time-t.ensures c.local_timezone_offset_seconds-offset.ensures,
-    )
+local_string-printed-requires c = (
+  fields-printable c.date_fields.ensures (shown (goal.at.local_string-printed-requires c).After-local_time-t).shown,
+  offset-printable c.args.zone.now c.requires.1 c.requires.0 c.local_time-t.ensures c.local_timezone_offset_seconds-offset.ensures,
+)
 
 pub returns : goal.returns
 returns c =

@@ -1,5 +1,4 @@
 -- `writer::to_iso_string` meets its contract. Assumes nothing.
-use borrow.Author.Rules.{rules}
 use Rattle.writer.proofs.Given.{refused-leaves, iso-given, time-shown}
 use Rattle.writer.proofs.to_iso_string.Goals as goal
 

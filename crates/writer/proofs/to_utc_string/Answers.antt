@@ -1,5 +1,4 @@
 -- `writer::to_utc_string` meets its contract. Assumes nothing.
-use borrow.Author.Rules.{rules}
 use Rattle.writer.proofs.Given.{refused-leaves, utc-given, time-shown}
 use Rattle.writer.proofs.to_utc_string.Goals as goal
 

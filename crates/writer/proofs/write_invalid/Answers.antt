@@ -1,5 +1,4 @@
 -- `writer::write_invalid` meets its contract. Assumes nothing.
-use borrow.Author.Rules.{rules}
 use Rattle.writer.proofs.Written.{prints-leaves}
 use Rattle.writer.proofs.write_invalid.Goals as goal
 

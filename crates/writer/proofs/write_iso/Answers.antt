@@ -1,5 +1,4 @@
 -- `writer::write_iso` meets its contract. Assumes nothing.
-use borrow.Author.Rules.{rules}
 use mathlib.Core.Path.{◌∙◌, ap}
 use Prim.Native.Nat.{ℕ}
 use Rattle.writer.specs.Inner.{replied}

@@ -1,13 +1,7 @@
 -- `zone::accept` meets its contract: before record i, every record so far keeps the rule. Assumes nothing.
-use mathlib.Core.Path.{sym, subst, ◌∙◌}
-use Prim.Native.Nat.{ℕ, ◌+◌, ◌-◌, ◌≤◌}
-use native.Mathlib.Nat.{add_assoc}
-use native.Mathlib.Omega.{arith}
-use borrow.Author.Rules.{rules}
-use borrow.Author.Tests.{not-true, not-false}
+use Prim.Native.Nat.{◌-◌, ◌≤◌}
 use lib.Dec.{T}
 use Rattle.zone.specs.Zone.{records, keeps, all_below}
-use Rattle.zone.proofs.Rule.{all-below-more, refuses, accepted-size, refuses-record, accepts-all, accepts_last}
 use Rattle.zone.proofs.accept.Given as goal
 
 abbrev pub invariant-loop-i : goal.invariant-loop-i

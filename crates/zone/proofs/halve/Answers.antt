@@ -1,7 +1,5 @@
 -- `zone::halve` meets its contract: halving keeps `Narrowed`. Assumes nothing.
-use borrow.Author.Rules.{rules}
 use mathlib.Core.Path.{◌∙◌, refl, subst}
-use mathlib.Core.Logic.{⊎_elim}
 use native.Mathlib.Omega.{arith}
 use lib.IntN.{ℤ}
 use lib.Signed.{◌≤ℤ◌, ◌<ℤ◌}
@@ -15,10 +13,9 @@ use Rattle.zone.proofs.halve.Goals.{then-second_at-second, else-second_at-second
 pub returns : goal.returns
 returns c =
     let read = c.second_at in
-    let z = to_z w64 (of_z w64 read.result) in
-    (
+    let z = to_z w64 (of_z w64 read.result) in (
       elim c.if-second_at-second.branch [
-          then-second_at-second w ↦ halved-up _ c.requires.0 _ c.args.run.low c.args.run.size _ _ c.requires.1 (omega arith) (kept {w = w64} (record { sfits = read.type_inv }) ∙ read.ensures) (subst (λ (t : ℤ). z ≤ℤ t) (kept c.ranges.second) (le-true w.if-second_at-second.true)) w.low-is
+        | then-second_at-second w ↦ halved-up _ c.requires.0 _ c.args.run.low c.args.run.size _ _ c.requires.1 (omega arith) (kept {w = w64} (record { sfits = read.type_inv }) ∙ read.ensures) (subst (λ (t : ℤ). z ≤ℤ t) (kept c.ranges.second) (le-true w.if-second_at-second.true)) w.low-is
         | else-second_at-second w ↦ halved-down _ c.requires.0 _ c.args.run.low c.args.run.size _ _ c.requires.1 (omega arith) (kept {w = w64} (record { sfits = read.type_inv }) ∙ read.ensures) (subst (λ (t : ℤ). t <ℤ z) (kept c.ranges.second) (le-false w.if-second_at-second.false)) w.low-is
       ],
       refl,

@@ -1,9 +1,7 @@
 -- `zone::keeps_rule` meets its contract: the order's test, then the bounds'. Assumes nothing.
 use mathlib.Core.Path.{sym, ap, ◌∙◌}
-use mathlib.Core.Logic.{⊎_elim}
 use Prim.Native.Nat.{◌-◌}
 use native.Mathlib.Omega.{arith}
-use borrow.Author.Rules.{rules}
 use lib.Dec.{leb}
 use lib.IntN.{ℤ, nat_abs}
 use mir.Syntax.{w32, w64}
@@ -33,10 +31,10 @@ returns c =
     c.is_bounded.ensures ∙ ap (λ (z : ℤ). leb (nat_abs z) 86399) offset-i
     ∙ sym
     (elim c.if-i-gt0.branch [
-      then-i-gt0+else-second_at w ↦
-        let at_i = to_z-of_z w64 w.second_at.result (record { sfits = w.second_at.type_inv }) ∙ w.second_at.ensures ∙ sym (second_is c.args.zone.now i (omega arith)) in
-        let one = w.second_at-then-i-gt0 in
-        let before-i = to_z-of_z w64 one.result (record { sfits = one.type_inv }) ∙ one.ensures ∙ sym (second_is c.args.zone.now (i - 1) (omega arith)) in
-        keeps-after list i _ _ at_i before-i (le-false w.if-second_at.false)
-    | else-i-gt0 w ↦ keeps-first list i (omega (arith, w.if-i-gt0.false))
+      | then-i-gt0+else-second_at w ↦
+          let at_i = to_z-of_z w64 w.second_at.result (record { sfits = w.second_at.type_inv }) ∙ w.second_at.ensures ∙ sym (second_is c.args.zone.now i (omega arith)) in
+          let one = w.second_at-then-i-gt0 in
+          let before-i = to_z-of_z w64 one.result (record { sfits = one.type_inv }) ∙ one.ensures ∙ sym (second_is c.args.zone.now (i - 1) (omega arith)) in
+          keeps-after list i _ _ at_i before-i (le-false w.if-second_at.false)
+      | else-i-gt0 w ↦ keeps-first list i (omega (arith, w.if-i-gt0.false))
     ])

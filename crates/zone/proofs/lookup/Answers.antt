@@ -1,5 +1,4 @@
 -- `zone::lookup` meets its contract: ten halvings leave the record that decides. Assumes nothing.
-use borrow.Author.Rules.{rules}
 use mathlib.Core.Path.{ap, ◌∙◌}
 use native.Mathlib.Omega.{arith}
 use mir.Syntax.{w32, w64}

@@ -4,7 +4,6 @@ use mir.Syntax.{w64}
 use mir.ValLaws.{to_z-of_z}
 use Rattle.little_endian.specs.Bytes.{twos_complement}
 use Rattle.zone.specs.Zone.{record_at}
-use borrow.Author.Rules.{rules}
 use Rattle.zone.proofs.second_at.Goals as goal
 
 pub returns : goal.returns

@@ -1,5 +1,5 @@
 -- `zone_records::accept` meets its contract: a turn judges one record more. Assumes nothing.
-use Rattle.std.proofs.Common.{◌≡◌, ◌+◌, ◌∙◌, refl, sym, rules, w64, w32, length, false, ◌&&◌}
+use Rattle.std.proofs.Common.{◌≡◌, ◌∙◌, refl, sym, rules, w64, w32, length, false, ◌&&◌}
 use lib.Dec.{ltb}
 use lib.ListN.{get_or}
 use mir.Val.{SFits}

@@ -1,6 +1,5 @@
 -- `zone_records_main::judge` is safe: what `accept_first` has accepted may be asked. Assumes nothing.
 use mathlib.Core.Path.{sym, ◌∙◌}
-use borrow.Author.Rules.{rules}
 use Rattle.integers.proofs.Machine.{true-T}
 use Rattle.zone.proofs.Rule.{is_zone_list-sound}
 use Rattle.zone_records_main.proofs.judge.Goals as goal

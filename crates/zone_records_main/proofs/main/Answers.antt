@@ -1,5 +1,4 @@
 -- `zone_records_main::main` is safe and ends. Assumes nothing.
-use borrow.Author.Rules.{rules}
 use Rattle.zone_records_main.proofs.main.Goals as goal
 
 pub loop-left-init : goal.loop-left-init

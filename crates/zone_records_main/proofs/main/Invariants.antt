@@ -1,5 +1,4 @@
 -- `zone_records_main::main` is safe and ends. Assumes nothing.
-use borrow.Author.Rules.{rules}
 use Rattle.zone_records_main.proofs.main.Given as goal
 
 abbrev pub invariant-loop-left : goal.invariant-loop-left
@@ -7,4 +6,5 @@ invariant-loop-left l = Unit {0}
 
 abbrev pub decreases-loop-left : goal.decreases-loop-left
 decreases-loop-left l = l.left
+
 -- LOOPS [[["loop", "loop-left"], ["left"]]]

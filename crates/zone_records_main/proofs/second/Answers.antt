@@ -6,7 +6,6 @@ use lib.IntN.{ℤ, pos, ◌-ℤ◌}
 use mir.Syntax.{w64}
 use mir.Val.{SFits, to_z}
 use mir.Facts.{to_z_pos}
-use borrow.Author.Rules.{rules}
 use Rattle.integers.proofs.Int.{at, ◌-ᵗ◌, read}
 use Rattle.integers.proofs.Machine.{fits64}
 use Rattle.zone_records_main.proofs.second.Goals as goal

@@ -1,7 +1,6 @@
 -- `zone_records_main::write` is safe: -1 - z of a negative z is a number from 0 up. Assumes nothing.
 use lib.Signed.{yes_non_neg}
 use mir.Facts.{to_z-of_z, Fits-nat_abs}
-use borrow.Author.Rules.{rules}
 use Rattle.integers.proofs.Machine.{below-zero, from_zero, flip-abs, flip-nonneg, flip-fits}
 use Rattle.zone_records_main.proofs.write.Goals as goal
 

@@ -1,5 +1,4 @@
 -- `zovattha::zovattha_build_utc` meets its contract. Assumes nothing.
-use borrow.Author.Rules.{rules}
 use Rattle.zovattha.proofs.Calls.{replied}
 use Rattle.zovattha.proofs.zovattha_build_utc.Goals as goal
 

@@ -1,5 +1,4 @@
 -- `zovattha::zovattha_read` meets its contract. Assumes nothing.
-use borrow.Author.Rules.{rules}
 use Rattle.zovattha.proofs.Calls.{replied}
 use Rattle.zovattha.proofs.zovattha_read.Goals as goal
 

@@ -1,5 +1,4 @@
 -- `zovattha::zovattha_set_seconds` meets its contract. Assumes nothing.
-use borrow.Author.Rules.{rules}
 use Rattle.zovattha.proofs.Calls.{replied}
 use Rattle.zovattha.proofs.zovattha_set_seconds.Goals as goal
 

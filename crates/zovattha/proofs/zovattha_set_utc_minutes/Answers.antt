@@ -1,5 +1,4 @@
 -- `zovattha::zovattha_set_utc_minutes` meets its contract. Assumes nothing.
-use borrow.Author.Rules.{rules}
 use Rattle.zovattha.proofs.Calls.{replied}
 use Rattle.zovattha.proofs.zovattha_set_utc_minutes.Goals as goal
 

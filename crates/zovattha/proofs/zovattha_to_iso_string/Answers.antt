@@ -1,5 +1,4 @@
 -- `zovattha::zovattha_to_iso_string` meets its contract. Assumes nothing.
-use borrow.Author.Rules.{rules}
 use Rattle.zovattha.proofs.Calls.{answers}
 use Rattle.zovattha.proofs.zovattha_to_iso_string.Goals as goal
 
