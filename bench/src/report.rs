@@ -66,7 +66,10 @@ fn lists(out: &mut String, run: &Run) {
         Some(lines) => {
             writeln!(out, "`datecheck` answers {:.1} million lines a second.", lines / 1e6)
         }
-        None => writeln!(out, "`datecheck` is left out: target/bin/datecheck is not built."),
+        None => writeln!(
+            out,
+            "`datecheck` is left out: target/bin/datecheck is not built (tools/archives)."
+        ),
     }
     .unwrap();
 }
@@ -130,7 +133,7 @@ of one machine, and of a busy one.
   on which both sides are quicker. (It is hardly the memory: 65,536 that repeat after each 256 take less than a tenth more than 256.) A
   round goes through them once on one side; 40 rounds of each side take turns, in five passes over all rows, and the best round of each
   counts, since it is the one that nothing else disturbed.
-- Both sides are built for release: the archive by `rt staticlib zovattha`, called through its C functions; the original's text
+- Both sides are built for release: the archive by `tools/archives`, called through its C functions; the original's text
   unchanged, optimised as one whole with the benchmark around it. Before a row is timed, both sides' answers are compared.
 - The original's context, date objects and arguments are made beforehand, as are the lists, records and texts that the archive is
   lent. A setter's date is brought to where the call leaves it, so that every call does the same work. The local builder is the

@@ -27,7 +27,7 @@ fn main() {
 
 /// One line, and no build: cargo stops at an error that is printed, with no status beside it.
 fn stop(fault: &str) -> ! {
-    println!("cargo::error={fault}: make it by `rt staticlib zovattha`, or set ZOVATTHA_LIB");
+    println!("cargo::error={fault}: make it by `tools/archives`, or set ZOVATTHA_LIB");
     exit(0);
 }
 

@@ -1,6 +1,7 @@
 /*
  * Dates through the header alone: read a start, move it to another hour, write it in local time and in UTC, and rewrite a text.
  *
+ *   tools/archives
  *   cc -Iinclude examples/c/hello_dates.c target/staticlib/libzovattha.a
  */
 #include "zovattha.h"
