@@ -3,3 +3,4 @@ pub mod Table
 mod Step
 mod Quick
 pub mod Counting
+pub mod LeapDays

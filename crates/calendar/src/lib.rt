@@ -270,6 +270,7 @@ pub fn day_within_year(t: f64) -> u16
 }
 
 // 1 for a year of 366 days, else 0.
+#[tactic(auto, using(crate::proofs::LeapDays::leap_of_366, crate::proofs::LeapDays::common_of_other))]
 fn leap_flag(year: i32) -> u16
     ensures { result ≡ leap_f year }
 {

@@ -103,19 +103,25 @@ pub struct Fed {
     pub next: usize,
 }
 
-// Takes in a byte. No more than 33 bytes are kept of a line: no accepted text is longer than 32.
+// What ends a line.
+const NEWLINE: u8 = b'\n';
+
+// No more than 33 bytes are kept of a line: no accepted text is longer than 32.
+const MOST_KEPT: usize = 33;
+
+// Takes in a byte.
 fn take_in(b: u8, line: &mut [u8], kept: usize, output: &mut [u8], at: usize) -> Fed
     requires { (length line.old ≡ 33) × (kept ≤ 33) × (at + 64 ≤ length output.old) }
     ensures { Feeds (prints (take kept line.old) b) (behind (take kept line.old) b) (sets line.old 0 (behind (take kept line.old) b)) 64 output.old at result line.new output.new }
 {
-    if b == b'\n' {
+    if b == NEWLINE {
         let next = put_line(&line[..kept], output, at);
         return Fed {
             kept: 0,
             next: next,
         };
     }
-    if kept < 33 {
+    if kept < MOST_KEPT {
         line[kept] = b;
         return Fed {
             kept: kept + 1,

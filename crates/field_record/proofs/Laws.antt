@@ -13,7 +13,7 @@ use lib.Dec.{leb}
 use lib.Pow.{pow_pos}
 use lib.ListN.{length}
 use lib.Ieee.{Float}
-use Rattle.field_record.specs.FieldRecord.{map_of, stands, has_length, place_of, field_at, field_or}
+use Rattle.field_record.specs.FieldRecord.{map_of, stands, has_length, has_other_bit, place_of, field_at, field_or}
 
 pub right-length : (bytes : List ℕ) → has_length bytes ≡ true → length bytes ≡ 1 + 8 * ones (map_of bytes)
 unfolding has_length
@@ -74,3 +74,21 @@ module _ (bytes : List ℕ) (i : ℕ) where
     pub field-given : map_of bytes / 2 ^ i % 2 ≡ 1 → field_or bytes i absent ≡ field_at bytes i
     unfolding field_or
     field-given h = rw (bit-given h)
+
+-- ---- the answers of `has_other_bit` and, for an absent field, of `field_or`
+pub no_bit : (bytes : List ℕ) (bits : ℕ) → map_of bytes / 2 ^ bits ≡ 0 → false ≡ has_other_bit bits bytes
+unfolding has_other_bit
+no_bit bytes bits e = sym (no_other (map_of bytes) bits e)
+
+pub some_bit : (bytes : List ℕ) (bits : ℕ) → (map_of bytes / 2 ^ bits ≡ 0 → ⊥) → true ≡ has_other_bit bits bytes
+unfolding has_other_bit
+some_bit bytes bits h = sym (some-other (map_of bytes) bits h)
+
+pub not_given : (bytes : List ℕ) (i : ℕ) → map_of bytes / 2 ^ i % 2 ≡ 0 → false ≡ stands bytes i
+not_given bytes i e = sym (bit-absent bytes i e)
+
+pub absent_value : (bytes : List ℕ) (i : ℕ) (absent : Float) → map_of bytes / 2 ^ i % 2 ≡ 0 → absent ≡ field_or bytes i absent
+absent_value bytes i absent e = sym (field-absent bytes i absent e)
+
+pub absent_place : (bytes : List ℕ) (i at : ℕ) → at ≡ place_of bytes i → map_of bytes / 2 ^ i % 2 ≡ 0 → at ≡ place_of bytes (i + 1)
+absent_place bytes i at p e = p ∙ sym (place-absent bytes i e)

@@ -17,6 +17,7 @@ pub fn has_length(fields: &[u8]) -> bool
 }
 
 // Whether a bit stands that a call of `bits` bits hasn't got: refusal 4 is the answer `true`.
+#[tactic(auto, using(crate::proofs::Laws::no_bit, crate::proofs::Laws::some_bit))]
 pub fn has_other_bit(fields: &[u8], bits: u32) -> bool
     requires { (has_length fields.now ≡ true) × (bits < 8) }
     ensures { result ≡ has_other_bit bits fields.now }
@@ -37,6 +38,7 @@ pub struct Field {
 }
 
 // The field of a bit, whose place is `at`, or `absent` where the bit does not stand.
+#[tactic(auto, using(crate::proofs::Laws::not_given, crate::proofs::Laws::absent_value, crate::proofs::Laws::absent_place))]
 pub fn field_or(fields: &[u8], bit: u32, at: usize, absent: f64) -> Field
     requires { IsPlace fields.now bit at }
     ensures { FieldIs fields.now bit absent result }

@@ -13,6 +13,7 @@ pub mod Special
 pub mod Integer
 pub mod Within
 pub mod Saturation
+pub mod Narrow
 mod Patterns
 mod Clearing
 mod Digits

@@ -4,9 +4,10 @@ use Rattle.std.proofs.Common.{◌≡◌, ℕ, zero, suc, ◌+◌, ◌-◌, ◌*�
 use lib.Dec.{nleb→lt}
 use lib.Arith.{lt→nleb, le→nltb}
 use lib.Bits.{bit_or, bit_and, and_mask, or_shifted}
-use lib.Ieee.{Float, nan, inf, fin, binary64, fits, is_nan, nan_bits, to_bits, odd, of_fields, of_bits, ne}
+use lib.Ieee.{Float, nan, inf, fin, binary64, div, fits, is_nan, nan_bits, to_bits, odd, of_fields, of_bits, ne}
 use lib.Ieee.Bits.{is_true, is_false, of_bits-to_bits, to_bits-lt, nan_bits_is, nan_bits_above}
 use lib.Ieee.Compare.{differs_from_itself, nan_differs}
+use Rattle.float.proofs.Special.{made-nan}
 use Rattle.float.specs.Rounding.{with_sign, is_negative, abs_f, copysign_f}
 
 -- `((s >> 63) << 63) | (b & 0x7fff_ffff_ffff_ffff)`
@@ -189,3 +190,7 @@ module _ (x y : Float) (hx : T (fits binary64 x)) (hy : T (fits binary64 y)) whe
   pub copysign-number : T (not (is_nan x)) → T (not (is_nan (copysign_f x y)))
   unfolding copysign_f
   copysign-number n = signed-number (is_negative y) x n
+
+-- what `of_bits` answers for the pattern n of a NaN, where m is n without its sign
+pub made_above : (n m : ℕ) → m ≡ n % 2 ^ 63 → 9218868437227405312 < m → div binary64 (of_bits binary64 0) (of_bits binary64 0) ≡ of_bits binary64 n
+made_above n m e h = made-nan ∙ sym (nan-above n (subst (λ (k : ℕ). 9218868437227405312 < k) e h))

@@ -68,6 +68,7 @@ pub fn bits_of(x: f64) -> u64
 }
 
 // The value that n is the pattern of, Rust's `from_bits`: a NaN for each pattern of one.
+#[tactic(auto, using(crate::proofs::Patterns::made_above))]
 pub fn of_bits(n: u64) -> f64
     ensures { result ≡ from_bits binary64 n }
 {
@@ -328,6 +329,7 @@ pub fn as_i64(x: f64) -> i64
 }
 
 // Rust's `x as i32`.
+#[tactic(auto, using(crate::proofs::Narrow::i32_low, crate::proofs::Narrow::i32_high, crate::proofs::Narrow::i32_kept))]
 pub fn as_i32(x: f64) -> i32
     ensures { result ≡ to_signed 31 x }
 {
@@ -342,6 +344,7 @@ pub fn as_i32(x: f64) -> i32
 }
 
 // Rust's `x as u16`.
+#[tactic(auto, using(crate::proofs::Narrow::u16_low, crate::proofs::Narrow::u16_high, crate::proofs::Narrow::u16_kept))]
 pub fn as_u16(x: f64) -> u16
     ensures { result ≡ to_unsigned 16 x }
 {
@@ -356,6 +359,7 @@ pub fn as_u16(x: f64) -> u16
 }
 
 // Rust's `x as u8`.
+#[tactic(auto, using(crate::proofs::Narrow::u8_low, crate::proofs::Narrow::u8_high, crate::proofs::Narrow::u8_kept))]
 pub fn as_u8(x: f64) -> u8
     ensures { result ≡ to_unsigned 8 x }
 {

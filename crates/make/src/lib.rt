@@ -145,6 +145,7 @@ pub fn make_date(day: f64, time: f64) -> f64
 }
 
 // MakeFullYear(year)
+#[tactic(auto, using(crate::proofs::Tests::small_year, crate::proofs::Tests::year_below, crate::proofs::Tests::year_above))]
 pub fn make_full_year(year: f64) -> f64
     ensures { result ≡ make_full_year_f year }
 {

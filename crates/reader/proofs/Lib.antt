@@ -1,3 +1,4 @@
 mod Sums
 pub mod Answers
+pub mod Tested
 pub mod Denotation

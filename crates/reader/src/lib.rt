@@ -150,6 +150,7 @@ fn instant_of(zone: &[u8], form: Form) -> i64
 }
 
 // The answer for an instant: the range is 8,640,000,000,000,000 either way.
+#[tactic(auto, using(crate::proofs::Tested::too_early, crate::proofs::Tested::too_late))]
 fn answer_at(t: i64) -> Reply
     ensures { result ≡ answer_at t }
 {

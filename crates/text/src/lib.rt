@@ -137,6 +137,7 @@ pub fn unsigned_abs(x: i32) -> u32
     if x < 0 { (-1 - x) as u32 + 1 } else { x as u32 }
 }
 
+#[tactic(auto, using(crate::proofs::Tested::below_long, crate::proofs::Tested::four_long, crate::proofs::Tested::above_long))]
 fn iso_year_length(year: i32) -> usize
     ensures { (length (iso_year year) ≡ result) × (result ≤ 7) }
 {
@@ -278,6 +279,7 @@ pub fn time_string(f: DateFields, output: &mut [u8], at: usize)
     put_gmt(output, at + 8);
 }
 
+#[tactic(auto, using(crate::proofs::Tested::minus, crate::proofs::Tested::plus))]
 fn offset_sign(offset: i32) -> u8
     ensures { result ∷ [] ≡ offset_sign offset }
 {

@@ -37,14 +37,3 @@ overflow_cast-result c = record { fits = omega (arith, rule c, leap-small c.args
 
 pub returns-then-is_near : goal.returns-then-is_near
 returns-then-is_near c = rule c ∙ sym (leap-whole c.args.year (omega (arith, near c.before)))
-
--- 366 days, by the test of the days that days_in_year gave
-days : (c : After-days_in_year) → cond (eqb c.days_in_year.result 366) 1 0 ≡ leap_f c.args.year
-days c =
-    ap (λ (n : ℕ). cond (eqb n 366) 1 0) (c.days_in_year.ensures ∙ ap (λ (z : ℤ). days_in_year_f (of_int binary64 z)) (kept c.ranges.year))
-
-pub returns-then-days_in_year-eq366 : goal.returns-then-days_in_year-eq366
-returns-then-days_in_year-eq366 c = ap (λ b. cond b 1 0) (sym (eq-eqb c.days_in_year.result 366 c.if-days_in_year-eq366.true)) ∙ days (goal.at.returns-then-days_in_year-eq366 c).After-days_in_year
-
-pub returns-else-days_in_year-eq366 : goal.returns-else-days_in_year-eq366
-returns-else-days_in_year-eq366 c = ap (λ b. cond b 1 0) (sym (ne_eqb c.days_in_year.result 366 c.if-days_in_year-eq366.false)) ∙ days (goal.at.returns-else-days_in_year-eq366 c).After-days_in_year

@@ -6,22 +6,22 @@ use Rattle.datelines.proofs.Runs.{puts-as}
 use Rattle.datelines.proofs.Bytes.{ends, begins, begins-bytes, keeps, keeps-bytes, drops, drops-bytes, quiet, byte-room}
 use Rattle.datelines.proofs.take_in.Goals as goal
 
-pub slice_bounds-put_line-end-then-b-eq10 : goal.slice_bounds-put_line-end-then-b-eq10
-slice_bounds-put_line-end-then-b-eq10 c = sym (length-take-le c.args.kept c.args.line.now (omega (arith, c.requires)))
+pub slice_bounds-put_line-end-then-b-eq-NEWLINE : goal.slice_bounds-put_line-end-then-b-eq-NEWLINE
+slice_bounds-put_line-end-then-b-eq-NEWLINE c = sym (length-take-le c.args.kept c.args.line.now (omega (arith, c.requires)))
 
-pub returns-then-b-eq10 : goal.returns-then-b-eq10
-returns-then-b-eq10 c =
-    let e = c.if-b-eq10.true in
+pub returns-then-b-eq-NEWLINE : goal.returns-then-b-eq-NEWLINE
+returns-then-b-eq-NEWLINE c =
+    let e = c.if-b-eq-NEWLINE.true in
     let p = puts-as c.put_line-next.ensures (ends _ _ e) in
     record { puts = p; opens = begins _ _ e; leaves = begins-bytes _ _ _ e; few = omega arith; room = byte-room _ _ p }
 
-pub returns-then-kept-lt33 : goal.returns-then-kept-lt33
-returns-then-kept-lt33 c =
+pub returns-then-kept-lt-MOST_KEPT : goal.returns-then-kept-lt-MOST_KEPT
+returns-then-kept-lt-MOST_KEPT c =
     let l = c.args.line.now in
     record {
-      puts = quiet l c.args.kept c.args.b c.if-b-eq10.false c.requires.0 c.requires.1;
-      opens = keeps l c.args.kept c.args.b c.if-b-eq10.false c.requires.0 c.requires.1 c.if-kept-lt33.true;
-      leaves = keeps-bytes l c.args.kept c.args.b c.if-b-eq10.false c.requires.0 c.requires.1 c.if-kept-lt33.true;
+      puts = quiet l c.args.kept c.args.b c.if-b-eq-NEWLINE.false c.requires.0 c.requires.1;
+      opens = keeps l c.args.kept c.args.b c.if-b-eq-NEWLINE.false c.requires.0 c.requires.1 (omega arith);
+      leaves = keeps-bytes l c.args.kept c.args.b c.if-b-eq-NEWLINE.false c.requires.0 c.requires.1 (omega arith);
       few = omega arith;
       room = omega arith;
     }
@@ -30,9 +30,9 @@ pub returns : goal.returns
 returns c =
     let l = c.args.line.now in
     record {
-      puts = quiet l c.args.kept c.args.b c.if-b-eq10.false c.requires.0 c.requires.1;
-      opens = drops l c.args.kept c.args.b c.if-b-eq10.false c.requires.0 c.requires.1 c.if-kept-lt33.false;
-      leaves = drops-bytes l c.args.kept c.args.b c.if-b-eq10.false c.requires.0 c.requires.1 c.if-kept-lt33.false;
+      puts = quiet l c.args.kept c.args.b c.if-b-eq-NEWLINE.false c.requires.0 c.requires.1;
+      opens = drops l c.args.kept c.args.b c.if-b-eq-NEWLINE.false c.requires.0 c.requires.1 (omega arith);
+      leaves = drops-bytes l c.args.kept c.args.b c.if-b-eq-NEWLINE.false c.requires.0 c.requires.1 (omega arith);
       few = omega arith;
       room = omega arith;
     }

@@ -7,11 +7,6 @@ use Rattle.little_endian.specs.Bytes.{little_endian}
 use Rattle.field_record.specs.FieldRecord.{map_of, field_at}
 use Rattle.field_record.proofs.Laws.{right-length, place-absent, place-given, place-room, bit-absent, bit-given, field-absent, field-given}
 use Rattle.field_record.proofs.field_or.Goals as goal
-use Rattle.field_record.proofs.field_or.Goals.{Else-from-eq0}
-
--- the bit that was tested stands
-stand : (c : Else-from-eq0) → let a = c.args in map_of a.fields.now / 2 ^ a.bit % 2 ≡ 1
-stand c = omega (arith, c.if-from-eq0.false)
 
 pub bounds-fields-0 : goal.bounds-fields-0
 bounds-fields-0 c = omega (arith, right-length _ c.requires.filled)
@@ -19,31 +14,22 @@ bounds-fields-0 c = omega (arith, right-length _ c.requires.filled)
 pub overflow_shr-from : goal.overflow_shr-from
 overflow_shr-from c = omega arith
 
-pub returns-then-from-eq0 : goal.returns-then-from-eq0
-returns-then-from-eq0 c =
-    let a = c.args in
-    record {
-      given_is = sym (bit-absent a.fields.now a.bit c.if-from-eq0.true);
-      value-is = sym (field-absent a.fields.now a.bit a.absent c.if-from-eq0.true);
-      next-is = c.requires.place ∙ sym (place-absent a.fields.now a.bit c.if-from-eq0.true);
-    }
-
 pub u64_at-requires : goal.u64_at-requires
 u64_at-requires c =
-    omega (arith, c.requires.place, place-room c.args.fields.now c.args.bit c.requires.filled (stand (goal.at.u64_at-requires c).Else-from-eq0))
+    omega (arith, c.requires.place, place-room c.args.fields.now c.args.bit c.requires.filled (omega arith))
 
 pub overflow_add-result : goal.overflow_add-result
 overflow_add-result c =
-    record { fits = omega (arith, c.requires.place, place-room c.args.fields.now c.args.bit c.requires.filled (stand (goal.at.overflow_add-result c).Else-from-eq0)) }
+    record { fits = omega (arith, c.requires.place, place-room c.args.fields.now c.args.bit c.requires.filled (omega arith)) }
 
 pub returns : goal.returns
 unfolding field_at
 returns c =
     let a = c.args in
     record {
-      given_is = sym (bit-given a.fields.now a.bit (stand (goal.at.returns c).Else-from-eq0));
+      given_is = sym (bit-given a.fields.now a.bit (omega arith));
       value-is =
           c.of_bits.ensures ∙ ap (of_bits binary64) (c.u64_at.ensures ∙ ap (little_endian 8 a.fields.now) c.requires.place)
-          ∙ sym (field-given a.fields.now a.bit a.absent (stand (goal.at.returns c).Else-from-eq0));
-      next-is = omega (arith, c.requires.place, place-given a.fields.now a.bit (stand (goal.at.returns c).Else-from-eq0));
+          ∙ sym (field-given a.fields.now a.bit a.absent (omega arith));
+      next-is = omega (arith, c.requires.place, place-given a.fields.now a.bit (omega arith));
     }
