@@ -1,5 +1,5 @@
 -- What each path of `as_i32`, `as_u16` and `as_u8` answers, of the tests as the machine makes them on `as_i64`'s number. Assumes nothing.
-use Rattle.std.proofs.Common.{◌≡◌, ℕ, ◌≤◌, true, false, ℤ, pos, w64, to_z, of_z, refl, lit≤}
+use Rattle.std.proofs.Common.{◌≡◌, true, false, ℤ, pos, w64, to_z, of_z, refl, lit≤}
 use lib.IntN.{negsuc, nat_abs}
 use lib.Ieee.{Float, to_signed, to_unsigned}
 use lib.Signed.{lt_z}

@@ -1,13 +1,13 @@
 -- What `answer_at` answers outside the range, of its tests as the machine makes them. Assumes nothing.
-use mathlib.Core.Path.{◌≡◌, ap, ◌∙◌, subst}
-use mathlib.Core.Bool.{true, false}
+use mathlib.Core.Path.{◌≡◌, subst}
+use mathlib.Core.Bool.{true}
 use Prim.Native.Nat.{◌≤◌, ◌<◌}
 use lib.IntN.{ℤ, pos, negsuc, nat_abs}
 use lib.Signed.{lt_z, ◌≤ℤ◌, ◌<ℤ◌}
 use mir.Syntax.{w64}
 use mir.Val.{SFits, to_z, of_z}
 use Rattle.integers.proofs.Int.{ints, abs-out}
-use Rattle.integers.proofs.Machine.{kept, lt-true, lt-false}
+use Rattle.integers.proofs.Machine.{kept, lt-true}
 use Rattle.ecma262.specs.Date.{time_range}
 use Rattle.answer.specs.declared.Refusal.TheVariants.{Instant}
 use Rattle.answer.specs.declared.Reply.TheVariants.{Refused}

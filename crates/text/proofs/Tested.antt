@@ -1,5 +1,5 @@
 -- An offset's sign and the length of an ISO year, of the tests as the machine makes them. Assumes nothing.
-use Rattle.std.proofs.Common.{◌≡◌, List, [], ◌∷◌, ℕ, ◌<◌, ◌≤◌, true, false, ℤ, pos, w32, to_z, of_z, refl, sym, ap, subst, length}
+use Rattle.std.proofs.Common.{◌≡◌, [], ◌∷◌, ℕ, ◌<◌, ◌≤◌, true, false, ℤ, pos, w32, to_z, of_z, refl, sym, ap, subst, length}
 use lib.IntN.{nat_abs}
 use lib.Signed.{lt_z}
 use mir.Val.{SFits}

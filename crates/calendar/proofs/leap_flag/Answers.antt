@@ -1,18 +1,13 @@
 -- `calendar::leap_flag` meets its contract: of a near year by the rule in whole numbers, else by the days of the year. Assumes nothing.
 use mathlib.Core.Path.{◌≡◌, sym, ap, subst, ◌∙◌}
-use mathlib.Core.Bool.{cond}
-use Prim.Native.Nat.{ℕ, ◌≤◌}
+use Prim.Native.Nat.{◌≤◌}
 use native.Mathlib.Omega.{arith}
-use borrow.Author.Tests.{eq-eqb, ne_eqb}
-use lib.Dec.{eqb}
 use lib.IntN.{ℤ, nat_abs}
-use lib.Ieee.{binary64, of_int}
 use mir.Syntax.{w32}
 use mir.Val.{to_z, of_z}
 use Rattle.integers.proofs.Machine.{kept}
 use Rattle.ecma262.specs.Date.{leap_of}
 use Rattle.ecma262.proofs.Leap.{leap-small}
-use Rattle.calendar.specs.Calendar.{days_in_year_f, leap_f}
 use Rattle.calendar.proofs.Quick.{near_within}
 use Rattle.calendar.proofs.Step.{as-64}
 use Rattle.calendar.proofs.Whole.{leap-whole}

@@ -1,11 +1,10 @@
 -- `field_record::field_or` meets its contract: a field that stands is read at its place, and the next one's place follows it. Assumes nothing.
-use mathlib.Core.Path.{◌≡◌, sym, ap, ◌∙◌}
-use Prim.Native.Nat.{◌/◌, ◌%◌, ◌^◌}
+use mathlib.Core.Path.{sym, ap, ◌∙◌}
 use native.Mathlib.Omega.{arith}
 use lib.Ieee.{binary64, of_bits}
 use Rattle.little_endian.specs.Bytes.{little_endian}
-use Rattle.field_record.specs.FieldRecord.{map_of, field_at}
-use Rattle.field_record.proofs.Laws.{right-length, place-absent, place-given, place-room, bit-absent, bit-given, field-absent, field-given}
+use Rattle.field_record.specs.FieldRecord.{field_at}
+use Rattle.field_record.proofs.Laws.{right-length, place-given, place-room, bit-given, field-given}
 use Rattle.field_record.proofs.field_or.Goals as goal
 
 pub bounds-fields-0 : goal.bounds-fields-0
