@@ -37,8 +37,8 @@ pub line-of : (text : List ℕ) (r : Reply) → read_outcome (replicate 12 0) te
 unfolding line_of
 line-of text r e = ap answer_line (sym e)
 
--- the end of the input
-pub last_none : (l : List ℕ) → length l ≡ 0 → [] ≡ last_of l
+-- the end of the input: with no line open nothing is stored; else the line's answer is
+pub last_none : (l : List ℕ) → length l ≡ 0 → last_of l ≡ []
 unfolding last_of
 last_none [] e = refl
 last_none (b ∷ l) e = absurd (omega arith)

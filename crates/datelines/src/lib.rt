@@ -156,6 +156,7 @@ pub fn feed(chunk: &[u8], line: &mut [u8], kept: usize, output: &mut [u8], at: u
 }
 
 // The input has ended: the answer to the open line, if there is one.
+#[tactic(auto, using(crate::proofs::Streams::last_none, crate::proofs::Streams::last_some))]
 pub fn finish(line: &[u8], output: &mut [u8], at: usize) -> usize
     requires { at + 64 ≤ length output.old }
     ensures { Appends output.old at (last_of line.now) result output.new }

@@ -46,7 +46,7 @@ shift_in_z local list t = cond local (local_time list t) t
 abbrev pub shift_out_z : Bool → List Record → ℤ → ℤ
 shift_out_z local list t = cond local (utc_time list t) t
 
--- TimeClip(UTC(new_date)), or TimeClip(new_date), from the time t, which is already shifted
+-- TimeClip(UTC(newDate)), or TimeClip(newDate), from the time t, which is already shifted
 unfoldable pub value_from_z : Call → Bool → List Record → ℤ → List ℕ → Option ℤ
 value_from_z call local list t fields = time_clip (shift_out_z local list (new_date_z call t (argument_z call t fields)))
 

@@ -131,7 +131,7 @@ fn date(t: f64, fields: &[u8]) -> f64
     ensures { result ≡ new_date_of (set Part.Date) t fields.now }
 {
     let dt = first_of(fields);
-    // Let new_date be MakeDate(MakeDay(YearFromTime(t), MonthFromTime(t), dt), TimeWithinDay(t)).
+    // Let newDate be MakeDate(MakeDay(YearFromTime(t), MonthFromTime(t), dt), TimeWithinDay(t)).
     let day = make::make_day(
         present(Part::FullYear, t),
         present(Part::Month, t),
@@ -147,7 +147,7 @@ fn month(t: f64, fields: &[u8]) -> f64
     let m = first_of(fields);
     let y = present(Part::FullYear, t);
     let dt = next_of(fields, 1, m.next, Part::Date, t);
-    // Let new_date be MakeDate(MakeDay(YearFromTime(t), m, dt), TimeWithinDay(t)).
+    // Let newDate be MakeDate(MakeDay(YearFromTime(t), m, dt), TimeWithinDay(t)).
     let day = make::make_day(y, m.value, dt.value);
     make::make_date(day, calendar::time_within_day(t))
 }
@@ -170,7 +170,7 @@ fn full_year(date: f64, fields: &[u8]) -> f64
     let y = first_of(fields);
     let m = next_of(fields, 1, y.next, Part::Month, t);
     let dt = next_of(fields, 2, m.next, Part::Date, t);
-    // Let new_date be MakeDate(MakeDay(y, m, dt), TimeWithinDay(t)).
+    // Let newDate be MakeDate(MakeDay(y, m, dt), TimeWithinDay(t)).
     let day = make::make_day(y.value, m.value, dt.value);
     make::make_date(day, calendar::time_within_day(t))
 }

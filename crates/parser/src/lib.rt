@@ -468,6 +468,7 @@ fn after_zone(z: Zone) -> Fault
 }
 
 // "Hour 24 is only valid as 24:00:00.000"
+#[tactic(auto, using(crate::proofs::HourAllowed::another_hour, crate::proofs::HourAllowed::no_minute, crate::proofs::HourAllowed::no_second, crate::proofs::HourAllowed::no_ms))]
 fn hour_allowed(hour: u32, minute: u32, second: u32, ms: u32) -> bool
     ensures { result ≡ hour_allowed hour minute second ms }
 {

@@ -1,5 +1,5 @@
-// The C functions of include/zovattha.h, and nothing else. A slice is a pointer and a length. None has a `requires`: any bits and any bytes
-// get an answer.
+// The functions of include/zovattha.h, and nothing else; the crate `zovattha_c` exports each under its name. None has a `requires`: any bits
+// and any bytes get an answer.
 #![tactic(auto)]
 
 ghost use Rattle.std.specs.Prelude.{◌≡◌, true, false, []};
