@@ -1,7 +1,7 @@
 -- A product modulo K * K from the halves of its factors, at any K: the sums are wrapped, and the upper half of the cross
 -- products falls away.
 -- Assumes nothing.
-use Rattle.std.proofs.Common.{◌≡◌, ℕ, ◌+◌, ◌*◌, ◌/◌, ◌%◌, ◌<◌, ap, lt_of_le_of_lt, le_of_lt, mul_assoc, add-mul, mul-le-mul_left, mul-lt-mul_of_pos_right, div-add-mod', mul-add, mul_right_comm, arith}
+use Rattle.std.proofs.Common.{◌≡◌, ℕ, ◌+◌, ◌*◌, ◌/◌, ◌%◌, ◌<◌, sym, ap, lt_of_le_of_lt, le_of_lt, mul_assoc, add-mul, mul-le-mul_left, mul-lt-mul_of_pos_right, div-add-mod', mul-add, mul_right_comm, arith}
 use native.Mathlib.Nat.{mul-mul-mul_comm, add-mul-mod_self_right, mod-mod_of_dvd, dvd-mul_right}
 
 module _ (K a1 a0 b1 b0 : ℕ) where
@@ -35,3 +35,18 @@ module _ (K a1 a0 b1 b0 : ℕ) where
 -- a product of two numbers below K is below K * K
 pub below : (K : ℕ) {a b : ℕ} → a < K → b < K → a * b < K * K
 below K {a} {b} ha hb = lt_of_le_of_lt (mul-le-mul_left a (le_of_lt hb)) (mul-lt-mul_of_pos_right ha (omega arith))
+
+-- the same as `wrapping_mul_u64` computes it: K is 2^32
+pub halves_fit : (a b : ℕ) → a < 4294967296 → b < 4294967296 → a * b < 18446744073709551616
+halves_fit a b ha hb = below 4294967296 ha hb
+
+pub product : (a b : ℕ)
+    → (a % 4294967296 * (b % 4294967296) + (a / 4294967296 * (b % 4294967296) + a % 4294967296 * (b / 4294967296)) % 18446744073709551616 % 4294967296 * 4294967296) % 18446744073709551616
+    ≡ a * b % 18446744073709551616
+product a b =
+    let h = halves 4294967296 (a / 4294967296) (a % 4294967296) (b / 4294967296) (b % 4294967296) in
+    sym (rw (div-add-mod' a 4294967296, div-add-mod' b 4294967296) at h)
+
+-- the low 32 bits of the low 64 are those of the whole
+pub lower : (n : ℕ) → n % 18446744073709551616 % 4294967296 ≡ n % 4294967296
+lower n = omega arith

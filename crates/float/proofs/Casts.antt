@@ -1,13 +1,13 @@
 -- A whole float `as` an integer: Rust's cast gives the number, and Rattle's check of it asks that the float is not -0, which `x + 0.0` never is.
 -- Assumes nothing.
-use Rattle.std.proofs.Common.{◌≡◌, ℕ, zero, suc, ◌-◌, ◌*◌, ◌/◌, ◌%◌, ◌^◌, ◌<◌, ◌≤◌, min, Bool, true, false, cond, not, ◌&&◌, T, eqb, ltb, leb, ℤ, pos, negsuc, ◌+ℤ◌, neg_ℤ, nat_abs, sym, ap, ◌∙◌, subst, ap₂, true≢false, arith, le→leb, lt→ltb, pow_pos}
+use Rattle.std.proofs.Common.{◌≡◌, ℕ, zero, suc, ◌-◌, ◌*◌, ◌/◌, ◌%◌, ◌^◌, ◌<◌, ◌≤◌, min, Bool, true, false, cond, not, ◌&&◌, T, eqb, ltb, leb, ℤ, pos, negsuc, ◌+ℤ◌, neg_ℤ, nat_abs, sym, ap, ◌∙◌, subst, ap₂, true≢false, arith, le→leb, lt→ltb, pow_pos, w64, to_z, of_z, to_z-of_z}
 use mathlib.Core.Bool.{false≢true}
 use lib.IntN.{+ℤ_idr, pos-ne-negsuc}
 use lib.Signed.{mag}
 use lib.Ieee.{Float, nan, inf, fin, Format, binary64, prec, up, down, add, of_bits, to_unsigned, to_signed, whole, in_signed, in_float}
 use lib.Ieee.Fits.{down_pos, eq→eqb, and_i}
 use lib.Ieee.Exact.{HasValue}
-use Rattle.float.specs.Whole.{signed, IsWhole, plain}
+use Rattle.float.specs.Whole.{signed, IsWhole, WholeWithin, plain, trunc_z}
 use Rattle.float.proofs.Fractions.{cut}
 use Rattle.float.proofs.Whole.{size_is, add-whole, add-plain}
 use Rattle.float.proofs.Literal.{zero-whole}
@@ -105,6 +105,16 @@ plus-zero {x} {z} w h =
 pub cast_signed : (h : ℕ) {x : Float} {z : ℤ} → IsWhole x z → nat_abs z ≤ 2 ^ 53 → mag z < 2 ^ h
     → T (in_signed binary64 h (add binary64 x (of_bits binary64 0))) × (to_signed h (add binary64 x (of_bits binary64 0)) ≡ z)
 cast_signed h w b s = let v = plus-zero w b in (in_signed-whole binary64 h v.0 b s v.1, to_signed-whole h v.0 s)
+
+module _ (x : Float) (h : WholeWithin (2 ^ 53) x) where
+  cast : T (in_signed binary64 63 (add binary64 x (of_bits binary64 0))) × (to_signed 63 (add binary64 x (of_bits binary64 0)) ≡ trunc_z x)
+  cast = cast_signed 63 h.whole h.size (in-63 (trunc_z x) h.size)
+
+  pub exact_taken : T (in_signed binary64 63 (add binary64 x (of_bits binary64 0)))
+  exact_taken = cast.0
+
+  pub exact_back : to_z w64 (of_z w64 (to_signed 63 (add binary64 x (of_bits binary64 0)))) ≡ trunc_z x
+  exact_back = ap (λ z. to_z w64 (of_z w64 z)) cast.1 ∙ to_z-of_z {w = w64} (record { sfits = in-63 (trunc_z x) h.size })
 
 -- ---- and back: an integer of at most 53 digits is a float
 pub int-in-float : (z : ℤ) → nat_abs z ≤ 2 ^ 53 → T (in_float binary64 z)

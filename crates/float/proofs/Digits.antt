@@ -1,10 +1,11 @@
 -- The remainder of two floats by their digits and places, and the pattern of a number of smallest values. Assumes nothing.
-use Rattle.std.proofs.Common.{◌≡◌, ℕ, zero, suc, ◌+◌, ◌-◌, ◌*◌, ◌/◌, ◌%◌, ◌^◌, ◌<◌, ◌≤◌, Bool, true, false, cond, not, T, eqb, ltb, ◌⊎◌, pos, sym, refl, ap, ◌∙◌, subst, ap₂, inl, inr, le_trans, lt_trans, le_of_eq, lt_of_lt_of_le, lt_of_le_of_lt, lt_irrefl, mul-le-mul_right, mod-lt, mod-eq_of_lt, mul_assoc, mul_comm, add-mul, add_comm, mul-le-mul_left, mul-pos, pow-suc, div-add-mod', zero-mul, mul-one, mul_right_comm, div-one, mul-div_cancel, arith, lit≤, eqb→eq, ltb→lt, nltb→le, pow_pos, pow_mono, pow-add, shl_lt}
+use Rattle.std.proofs.Common.{◌≡◌, ℕ, zero, suc, ◌+◌, ◌-◌, ◌*◌, ◌/◌, ◌%◌, ◌^◌, ◌<◌, ◌≤◌, min, Bool, true, false, cond, not, T, eqb, ltb, ◌⊎◌, pos, sym, refl, ap, ◌∙◌, subst, ap₂, inl, inr, le_trans, lt_trans, le_of_eq, lt_of_lt_of_le, lt_of_le_of_lt, lt_irrefl, mul-le-mul_right, mod-lt, mod-eq_of_lt, mul_assoc, mul_comm, add-mul, add_comm, mul-le-mul_left, mul-pos, pow-suc, div-add-mod', zero-mul, mul-one, mul_right_comm, div-one, mul-div_cancel, arith, lit≤, eqb→eq, ltb→lt, nltb→le, pow_pos, pow_mono, pow-add, shl_lt}
 use Prim.Native.Nat.{compare}
 use native.Mathlib.Nat.{mul-add-mod_self_right, eq_of_mul-eq-mul_right, div-div-eq-div-mul, div-eq_of_lt, pow-succ'}
 use lib.Dec.{not_T}
 use lib.Count.{count_leading_zeros, leading_top, count_trailing_zeros, under}
-use lib.Ieee.{Float, nan, inf, fin, binary64, fits, is_nan, up, down, size, nearest, odd, round, rem, of_fields, of_bits, to_bits}
+use lib.Bits.{bit_and, and_mask}
+use lib.Ieee.{Float, nan, inf, fin, binary64, fits, is_nan, nan_bits, up, down, size, nearest, odd, round, rem, of_fields, of_bits, to_bits}
 use lib.Ieee.Fits.{down_pos, round-fits}
 use lib.Ieee.Bits.{cond_no, of_bits-fits, of_bits-to_bits}
 use lib.Ieee.Exact.{HasValue, round_exact}
@@ -15,24 +16,18 @@ use Rattle.float.specs.Rounding.{with_sign}
 use Rattle.float.specs.Inner.{lead, place, mag}
 use Rattle.float.proofs.Rounding.{round-signed}
 use Rattle.float.proofs.Ops.{mod-scale}
-use Rattle.float.proofs.Patterns.{pat, read, sign_bit, Fields, fields, digits_of, signed, bits_back, bits-lt}
+use Rattle.float.proofs.Special.{nan-only}
+use Rattle.float.proofs.Patterns.{pat, read, sign_bit, Fields, fields, digits_of, signed, bits_back, bits-lt, no_nan}
 use Rattle.float.proofs.Clearing.{fields-val, lead-lt, place-le, units_number}
 
 -- ---- digits and places
 
-pub lead-none : (x t : ℕ) → x ≡ 0 → lead x t ≡ t
-lead-none x t e = ap (λ (z : ℕ). lead z t) e
-
-pub lead-some : (x t : ℕ) → (x ≡ 0 → ⊥) → lead x t ≡ 4503599627370496 + t
-lead-some zero t h = absurd (h refl)
-lead-some (suc x) t h = refl
-
-pub place_none : (x : ℕ) → x ≡ 0 → place x ≡ 0
-place_none x e = ap place e
-
-pub place-some : (x : ℕ) → (x ≡ 0 → ⊥) → place x ≡ x - 1
-place-some zero h = absurd (h refl)
-place-some (suc x) h = omega arith
+pub lead_some : (b : ℕ) → 0 < b / 2 ^ 52 % 2 ^ 11 → 4503599627370496 + bit_and b 4503599627370495 ≡ lead (b / 4503599627370496 % 2048) (b % 4503599627370496)
+lead_some b h = go (b / 4503599627370496 % 2048) h ∙ ap (lead (b / 4503599627370496 % 2048)) (and_mask b 52)
+  where
+    go : (x : ℕ) → 0 < x → 4503599627370496 + bit_and b 4503599627370495 ≡ lead x (bit_and b 4503599627370495)
+    go zero l = absurd (omega arith)
+    go (suc x) l = refl
 
 -- ---- remainders of whole numbers
 
@@ -124,8 +119,8 @@ not-above q j Q h = elim (split j 53) [
     below_one : (j : ℕ) → j < 53 → j ≤ 52
     below_one j a = omega arith
 
-pub room-is : (q : ℕ) → 0 < q → q < 2 ^ 53 → (11 ≤ count_leading_zeros 64 q) × (2 ^ 52 ≤ q * 2 ^ (count_leading_zeros 64 q - 11)) × (q * 2 ^ (count_leading_zeros 64 q - 11) < 2 ^ 53) × (count_leading_zeros 64 q - 11 ≤ 52)
-room-is q P Q =
+pub room_is : (q : ℕ) → 0 < q → q < 2 ^ 53 → (11 ≤ count_leading_zeros 64 q) × (2 ^ 52 ≤ q * 2 ^ (count_leading_zeros 64 q - 11)) × (q * 2 ^ (count_leading_zeros 64 q - 11) < 2 ^ 53) × (count_leading_zeros 64 q - 11 ≤ 52)
+room_is q P Q =
     let z = count_leading_zeros 64 q in
     let top = leading_top 64 q P (lt_of_lt_of_le Q (lit≤ {m = 2 ^ 53} {n = 2 ^ 64} tt)) in
     let j = top.0 in
@@ -157,8 +152,18 @@ step r s k n h =
     rejoin : (s k : ℕ) → s < k → s + (k - s) ≡ k
     rejoin s k h = omega arith
 
-pub less-shift : (r s k : ℕ) → k ≤ s → r * 2 ^ s < 2 ^ 64 → r * 2 ^ k < 2 ^ 64
-less-shift r s k h b = lt_of_le_of_lt (mul-le-mul_left r (pow_mono h)) b
+-- the same as `shifted_rem` finds it: s is the room above n
+pub room_some : (n : ℕ) → 0 < n → n < 2 ^ 53 → 0 < count_leading_zeros 64 n
+room_some n P N = (leading-room n P N).0
+
+pub stepped : (r s k n : ℕ) → r < n → n < 2 ^ 53 → s ≡ count_leading_zeros 64 n → s < k → r * 2 ^ s % 18446744073709551616 % n * 2 ^ (k - s) % n ≡ r * 2 ^ k % n
+stepped r s k n R N is l =
+    let fits : r * 2 ^ s < 2 ^ 64 = rw is ((leading-room n (omega arith) N).2 r R) in
+    ap (λ (x : ℕ). x % n * 2 ^ (k - s) % n) (mod-eq_of_lt fits) ∙ step r s k n l
+
+pub finished : (r k n : ℕ) → r < n → n < 2 ^ 53 → k ≤ count_leading_zeros 64 n → r * 2 ^ k % 18446744073709551616 % n ≡ r * 2 ^ k % n
+finished r k n R N l =
+    ap (λ (x : ℕ). x % n) (mod-eq_of_lt (lt_of_le_of_lt (mul-le-mul_left r (pow_mono l)) ((leading-room n (omega arith) N).2 r R)))
 
 -- ---- zeros at the end
 
@@ -202,6 +207,13 @@ pub zeros-fewer : (n d : ℕ) → d ≤ count_trailing_zeros 64 n → n / 2 ^ d 
 zeros-fewer n d h = fewer n (count_trailing_zeros 64 n) d h (trailing-whole 64 n)
 
 -- not shifted as far: there is no leading one
+-- r of them, the fewer of d and all
+pub zeros_fit : (n d r : ℕ) → 0 < n → n < 2 ^ 64 → r ≡ min (count_trailing_zeros 64 n) d → r < 64
+zeros_fit n d r P L is = omega (arith, (zeros-all n P L).0)
+
+pub zeros_whole : (n d r : ℕ) → 0 < n → n < 2 ^ 64 → r ≡ min (count_trailing_zeros 64 n) d → n / 2 ^ r * 2 ^ r ≡ n
+zeros_whole n d r P L is = zeros-fewer n r (omega arith)
+
 pub unshifted : (q h k : ℕ) → q * 2 ^ h < 2 ^ 53 → k ≤ h → q * 2 ^ k < 2 ^ 53
 unshifted q h k hi le = lt_of_le_of_lt (mul-le-mul_left q (pow_mono le)) hi
 
@@ -388,17 +400,30 @@ round_number s a c =
     let u = c * 2 ^ k in
     units_number s (nearest (n / u) (compare (n % u * 2) u)) k
 
-pub rem-by-nan : (x : Float) → rem binary64 x nan ≡ nan
+-- ---- where no remainder is worked out
+-- `f64::NAN`
+the-nan : of_bits binary64 9221120237041090560 ≡ nan
+unfolding of_bits
+the-nan = refl
+
+rem-by-nan : (x : Float) → rem binary64 x nan ≡ nan
 unfolding rem
 rem-by-nan nan = refl
 rem-by-nan (inf s) = refl
 rem-by-nan (fin s m e) = refl
 
-pub rem-of-inf : (s : Bool) (y : Float) → rem binary64 (inf s) y ≡ nan
+pub of_nan : (x y : Float) → is_nan x ≡ true → x ≡ rem binary64 x y
+unfolding rem
+of_nan x y n = subst (λ (v : Float). v ≡ rem binary64 v y) (sym (nan-only x n)) refl
+
+pub by_nan : (x y : Float) → is_nan y ≡ true → y ≡ rem binary64 x y
+by_nan x y n = subst (λ (v : Float). v ≡ rem binary64 x v) (sym (nan-only y n)) (sym (rem-by-nan x))
+
+rem-of-inf : (s : Bool) (y : Float) → rem binary64 (inf s) y ≡ nan
 unfolding rem
 rem-of-inf s y = refl
 
-pub rem-by-zero : (x : Float) (s : Bool) → rem binary64 x (fin s 0 (pos 0)) ≡ nan
+rem-by-zero : (x : Float) (s : Bool) → rem binary64 x (fin s 0 (pos 0)) ≡ nan
 unfolding rem
 rem-by-zero nan s = refl
 rem-by-zero (inf t) s = refl
@@ -447,3 +472,33 @@ module _ (x : Float) (held : T (fits binary64 x)) where
       let F = fields (to_bits binary64 x) (bits-lt x held) in
       let z = low-fields F.s F.x F.t F.x_lt F.t-lt (ap (λ (n : ℕ). n % 2 ^ 63) (sym F.is) ∙ e) in
       (F.s, from_fields F ∙ ap₂ (of_fields binary64 F.s) z.0 z.1 ∙ zero-fields F.s)
+
+-- a value's own pattern
+own : (v : Float) → fits binary64 v ≡ true → T (fits binary64 v)
+own v h = subst T (sym h) tt
+
+module _ (x y : Float) (hx : fits binary64 x ≡ true) (hy : fits binary64 y ≡ true) where
+  pub no_nan_made : (r : ℕ) → to_bits binary64 x / 2 ^ 52 % 2 ^ 11 < 2047 → to_bits binary64 y / 2 ^ 52 % 2 ^ 11 < 2047 → 0 < to_bits binary64 y % 2 ^ 63
+      → of_bits binary64 r ≡ rem binary64 (of_bits binary64 (to_bits binary64 x)) (of_bits binary64 (to_bits binary64 y)) → T (not (nan_bits binary64 r))
+  no_nan_made r fx fy some e =
+      no_nan r _ e
+      (subst (λ (v : Float). T (not (is_nan v))) (sym (rem_is (to_bits binary64 x) (to_bits binary64 y) (bits-lt x (own x hx)) (bits-lt y (own y hy)) fx fy some)) (round_number _ _ (2 ^ 1074)))
+
+-- the same of two patterns, as `remainder` finds them: e is the exponent's field of x, z the pattern of y without its sign, and d the exponent's field of y
+module _ (x y : Float) (hx : fits binary64 x ≡ true) (hy : fits binary64 y ≡ true) (nx : is_nan x ≡ false) (ny : is_nan y ≡ false) where
+  number : (v : Float) → is_nan v ≡ false → T (not (is_nan v))
+  number v n = subst (λ (b : Bool). T (not b)) (sym n) tt
+
+  pub of_infinity : (e : ℕ) → e ≡ to_bits binary64 x / 2 ^ 52 % 2 ^ 11 → e ≡ 2047 → of_bits binary64 9221120237041090560 ≡ rem binary64 x y
+  of_infinity e f t = let i = is-inf x (own x hx) (number x nx) (sym f ∙ t) in the-nan ∙ sym (ap (λ (v : Float). rem binary64 v y) i.1 ∙ rem-of-inf i.0 y)
+
+  pub by_zero : (z : ℕ) → z ≡ to_bits binary64 y % 2 ^ 63 → z ≡ 0 → of_bits binary64 9221120237041090560 ≡ rem binary64 x y
+  by_zero z f t = let i = is_zero y (own y hy) (sym f ∙ t) in the-nan ∙ sym (ap (rem binary64 x) i.1 ∙ rem-by-zero x i.0)
+
+  pub by_infinity : (e d : ℕ) → e ≡ to_bits binary64 x / 2 ^ 52 % 2 ^ 11 → (e ≡ 2047 → ⊥) → d ≡ to_bits binary64 y / 2 ^ 52 % 2 ^ 11 → d ≡ 2047 → x ≡ rem binary64 x y
+  by_infinity e d g h f t =
+      let i = is-inf y (own y hy) (number y ny) (sym f ∙ t) in
+      sym (ap (rem binary64 x) i.1 ∙ rem-by-inf x i.0 (number x nx) (λ k. h (g ∙ k)))
+
+  pub of_two : (r : ℕ) → of_bits binary64 r ≡ rem binary64 (of_bits binary64 (to_bits binary64 x)) (of_bits binary64 (to_bits binary64 y)) → of_bits binary64 r ≡ rem binary64 x y
+  of_two r e = e ∙ ap₂ (rem binary64) (bits_back x (own x hx)) (bits_back y (own y hy))

@@ -7,6 +7,7 @@ use lib.Ieee.{Float, nan, inf, fin, Format, up, down, round, sum, add, sub, neg,
 use lib.Ieee.Bits.{cond_no, is_false}
 use lib.Ieee.Fits.{down_pos}
 use lib.Ieee.Scale.{round_same, finite}
+use Rattle.std.specs.Float.{float_is_finite}
 use Rattle.float.specs.Whole.{IsWhole}
 use Rattle.float.proofs.Whole.{round-is-whole}
 use Rattle.float.proofs.Order.{eq-whole}
@@ -25,6 +26,12 @@ null-sum f s a c C = go s
     go false = subst (λ (r : Float). IsWhole r (pos 0)) (sym (cond_no (ltb a a) (round f true (a - a) c) (round f false (a - a) c) no)) null
     go true =
         subst (λ (b : Bool). IsWhole (cond b (round f false (a - a) c) (round f b (a - a) c)) (pos 0)) (sym (is_false (ltb a a) no)) null
+
+pub finite_is : (x : Float) → float_is_finite x ≡ finite x
+unfolding float_is_finite
+finite_is nan = refl
+finite_is (inf s) = refl
+finite_is (fin s m e) = refl
 
 pub sub-self-whole : (f : Format) (x : Float) → T (finite x) → IsWhole (sub f x x) (pos 0)
 unfolding sub add neg

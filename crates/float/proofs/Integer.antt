@@ -30,9 +30,11 @@ zero-plain = tt
 test : (x : Float) → T (fits binary64 x) → T (finite x) → eq (trunc_f x) (of_bits binary64 0) ≡ eq_z (trunc_z x) (pos 0)
 test x h F = eq-whole (trunc-whole x h F) zero-whole
 
-pub integer-nan : of_bits binary64 0 ≡ to_integer_or_infinity nan
-unfolding to_integer_or_infinity
-integer-nan = refl
+pub of_nan : (x : Float) → is_nan x ≡ true → of_bits binary64 0 ≡ to_integer_or_infinity x
+unfolding to_integer_or_infinity is_nan
+of_nan nan e = refl
+of_nan (inf s) e = absurd (false≢true e)
+of_nan (fin s m d) e = absurd (false≢true e)
 
 pub integer-zero : (x : Float) → T (fits binary64 x) → eq (trunc_f x) (of_bits binary64 0) ≡ true → of_bits binary64 0 ≡ to_integer_or_infinity x
 unfolding to_integer_or_infinity trunc_f eq of_bits
@@ -51,6 +53,14 @@ integer-other (fin s m d) h n e = trunc-fin s m d ∙ go s (m * up d / down d) (
     go false k e = plus-int k
     go true zero e = absurd (true≢false e)
     go true (suc k) e = minus-int k
+
+-- the same, as the code finds it: t is x's whole part
+module _ (x : Float) (held : fits binary64 x ≡ true) (t : Float) (is : t ≡ trunc_f x) where
+  pub of_zero : eq t (of_bits binary64 0) ≡ true → of_bits binary64 0 ≡ to_integer_or_infinity x
+  of_zero e = integer-zero x (subst T (sym held) tt) (ap (λ v. eq v (of_bits binary64 0)) (sym is) ∙ e)
+
+  pub of_other : T (not (is_nan x)) → eq t (of_bits binary64 0) ≡ false → t ≡ to_integer_or_infinity x
+  of_other n e = is ∙ integer-other x (subst T (sym held) tt) n (ap (λ v. eq v (of_bits binary64 0)) (sym is) ∙ e)
 
 -- of a finite float it is the whole number, and not -0
 pub integer-whole : (x : Float) → T (fits binary64 x) → T (finite x) → IsWhole (to_integer_or_infinity x) (trunc_z x) × T (plain (to_integer_or_infinity x))

@@ -15,6 +15,7 @@ pub mod Within
 pub mod Saturation
 pub mod Narrow
 mod Patterns
+mod Changed
 mod Clearing
 mod Digits
 mod Controls

@@ -1,37 +1,37 @@
--- What each path of `as_i32`, `as_u16` and `as_u8` answers, of the tests as the machine makes them on `as_i64`'s number. Assumes nothing.
-use Rattle.std.proofs.Common.{◌≡◌, true, false, ℤ, pos, w64, to_z, of_z, refl, lit≤}
-use lib.IntN.{negsuc, nat_abs}
+-- What `as_i32`, `as_u16` and `as_u8` answer: `as_i64`'s number, as the machine holds it, kept within the range. Assumes nothing.
+use Rattle.std.proofs.Common.{◌≡◌, ℕ, suc, ◌-◌, ◌^◌, ◌<◌, ◌≤◌, min, ℤ, pos, negsuc, nat_abs, sym, refl, ap, ◌∙◌, arith, lit≤, w64, to_z, of_z, to_z-of_z}
 use lib.Ieee.{Float, to_signed, to_unsigned}
-use lib.Signed.{lt_z}
-use Rattle.float.proofs.Saturation.{unsigned-low, unsigned-high, unsigned-kept, signed_low, signed_high, signed-kept}
+use Rattle.std.specs.Int.{int_max, int_min}
+use Rattle.std.proofs.lemmas.Int.{ints, clamps}
+use Rattle.integers.proofs.Int.{plus}
+use Rattle.float.proofs.Saturation.{clamp, read_back, to_signed-narrow, to_unsigned-narrow}
+
+clamp-is : (K : ℕ) (z : ℤ) → int_max (negsuc K) (int_min z (pos K)) ≡ clamp (suc K) z
+clamp-is K (pos n) = omega (arith, ints, clamps)
+clamp-is K (negsuc n) = omega (arith, ints, clamps)
+
+clamp-plus : (K : ℕ) (z : ℤ) → int_max (pos 0) (int_min z (pos K)) ≡ pos (min (plus z) K)
+clamp-plus K (pos n) = omega (arith, ints, clamps)
+clamp-plus K (negsuc n) = omega (arith, ints, clamps)
 
 -- `as_i64`'s number, as the machine holds it
 abbrev pub held : Float → ℤ
 held x = to_z w64 (of_z w64 (to_signed 63 x))
 
-pub u16_low : (x : Float) → lt_z (held x) (pos 0) ≡ true → 0 ≡ to_unsigned 16 x
-u16_low x t = unsigned-low x _ refl 16 (lit≤ tt) t
+module _ (x : Float) (r : ℤ) where
+  unsigned-clamped : (k : ℕ) → 2 ^ k ≤ 2 ^ 63 → r ≡ int_max (pos 0) (int_min (held x) (pos (2 ^ k - 1))) → nat_abs (to_z w64 (of_z w64 r)) ≡ to_unsigned k x
+  unsigned-clamped k l c =
+      let n = to_unsigned k x in
+      let is : r ≡ pos n = c ∙ ap (λ z. int_max (pos 0) (int_min z (pos (2 ^ k - 1)))) (read_back x _ refl) ∙ clamp-plus (2 ^ k - 1) (to_signed 63 x) ∙ ap pos (sym (to_unsigned-narrow k x l)) in
+      let small : n < 2 ^ 63 = omega (arith, to_unsigned-narrow k x l) in
+      ap (λ z. nat_abs (to_z w64 (of_z w64 z))) is ∙ ap nat_abs (to_z-of_z {w = w64} {z = pos n} (record { sfits = small }))
 
-pub u16_high : (x : Float) → lt_z (pos 65535) (held x) ≡ true → 65535 ≡ to_unsigned 16 x
-u16_high x t = unsigned-high x _ refl 16 (lit≤ tt) t
+pub u16_clamped : (x : Float) (r : ℤ) → r ≡ int_max (pos 0) (int_min (held x) (pos 65535)) → nat_abs (to_z w64 (of_z w64 r)) ≡ to_unsigned 16 x
+u16_clamped x r = unsigned-clamped x r 16 (lit≤ tt)
 
-pub u16_kept : (x : Float) → lt_z (held x) (pos 0) ≡ false → lt_z (pos 65535) (held x) ≡ false → nat_abs (held x) ≡ to_unsigned 16 x
-u16_kept x t u = (unsigned-kept x _ refl 16 (lit≤ tt) t u).2
+pub u8_clamped : (x : Float) (r : ℤ) → r ≡ int_max (pos 0) (int_min (held x) (pos 255)) → nat_abs (to_z w64 (of_z w64 r)) ≡ to_unsigned 8 x
+u8_clamped x r = unsigned-clamped x r 8 (lit≤ tt)
 
-pub u8_low : (x : Float) → lt_z (held x) (pos 0) ≡ true → 0 ≡ to_unsigned 8 x
-u8_low x t = unsigned-low x _ refl 8 (lit≤ tt) t
-
-pub u8_high : (x : Float) → lt_z (pos 255) (held x) ≡ true → 255 ≡ to_unsigned 8 x
-u8_high x t = unsigned-high x _ refl 8 (lit≤ tt) t
-
-pub u8_kept : (x : Float) → lt_z (held x) (pos 0) ≡ false → lt_z (pos 255) (held x) ≡ false → nat_abs (held x) ≡ to_unsigned 8 x
-u8_kept x t u = (unsigned-kept x _ refl 8 (lit≤ tt) t u).2
-
-pub i32_low : (x : Float) → lt_z (held x) (negsuc 2147483647) ≡ true → negsuc 2147483647 ≡ to_signed 31 x
-i32_low x t = signed_low x _ refl 31 2147483647 refl (lit≤ tt) t
-
-pub i32_high : (x : Float) → lt_z (pos 2147483647) (held x) ≡ true → pos 2147483647 ≡ to_signed 31 x
-i32_high x t = signed_high x _ refl 31 2147483647 refl (lit≤ tt) t
-
-pub i32_kept : (x : Float) → lt_z (held x) (negsuc 2147483647) ≡ false → lt_z (pos 2147483647) (held x) ≡ false → held x ≡ to_signed 31 x
-i32_kept x t u = (signed-kept x _ refl 31 2147483647 refl (lit≤ tt) t u).1
+pub i32_clamped : (x : Float) → int_max (negsuc 2147483647) (int_min (held x) (pos 2147483647)) ≡ to_signed 31 x
+i32_clamped x =
+    ap (λ z. int_max (negsuc 2147483647) (int_min z (pos 2147483647))) (read_back x _ refl) ∙ clamp-is 2147483647 (to_signed 63 x) ∙ sym (to_signed-narrow 31 x (lit≤ tt))

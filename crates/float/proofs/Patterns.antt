@@ -165,9 +165,9 @@ module _ (x : Float) (held : T (fits binary64 x)) where
   unfolding abs_f
   abs-number n = signed-number false x n
 
--- the sign's bit is that of the sign
-top_bit : (y : Float) → T (fits binary64 y) → T (not (is_nan y)) → to_bits binary64 y / 2 ^ 63 * 2 ^ 63 ≡ sign_bit (is_negative y)
-top_bit y held n =
+-- the sign's bit is that of the sign; a NaN's pattern has none
+sign-place : (y : Float) → T (fits binary64 y) → T (not (is_nan y)) → to_bits binary64 y / 2 ^ 63 * 2 ^ 63 ≡ sign_bit (is_negative y)
+sign-place y held n =
     let b = to_bits binary64 y in
     let F = fields b (bits-lt y held) in
     let e : of_fields binary64 F.s F.x F.t ≡ y = sym (read F.s F.x F.t F.x_lt F.t-lt) ∙ ap (of_bits binary64) (sym F.is) ∙ bits_back y held in
@@ -179,11 +179,17 @@ top_bit y held n =
     top true x t X H = omega arith
     top false x t X H = omega arith
 
+top_bit : (y : Float) → T (fits binary64 y) → to_bits binary64 y / 2 ^ 63 * 2 ^ 63 ≡ sign_bit (is_negative y)
+unfolding is_nan is_negative to_bits
+top_bit nan held = refl
+top_bit (inf s) held = sign-place (inf s) held tt
+top_bit (fin s m e) held = sign-place (fin s m e) held tt
+
 module _ (x y : Float) (hx : T (fits binary64 x)) (hy : T (fits binary64 y)) where
-  pub copysign-bits : T (not (is_nan y)) → of_bits binary64 (to_bits binary64 y / 2 ^ 63 * 2 ^ 63 + to_bits binary64 x % 2 ^ 63) ≡ copysign_f x y
+  pub copysign-bits : of_bits binary64 (to_bits binary64 y / 2 ^ 63 * 2 ^ 63 + to_bits binary64 x % 2 ^ 63) ≡ copysign_f x y
   unfolding copysign_f
-  copysign-bits n =
-      ap (λ (a : ℕ). of_bits binary64 (a + to_bits binary64 x % 2 ^ 63)) (top_bit y hy n)
+  copysign-bits =
+      ap (λ (a : ℕ). of_bits binary64 (a + to_bits binary64 x % 2 ^ 63)) (top_bit y hy)
       ∙ signed (is_negative y) (to_bits binary64 x) (bits-lt x hx)
       ∙ ap (with_sign (is_negative y)) (bits_back x hx)
 

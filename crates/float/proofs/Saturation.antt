@@ -1,57 +1,10 @@
 -- The saturating casts. `x as i64` beyond the range is the nearer end of it, and every narrower cast is `x as i64` kept within its range. Assumes nothing.
-use Rattle.std.proofs.Common.{◌≡◌, ℕ, zero, suc, ◌+◌, ◌-◌, ◌*◌, ◌/◌, ◌^◌, ◌<◌, ◌≤◌, min, Bool, true, false, not, ◌||◌, T, ltb, ℤ, pos, negsuc, neg_ℤ, nat_abs, sym, refl, ap, ◌∙◌, subst, ap₂, true≢false, mul-pos, le-div_iff_mul-le, mul-one, arith, ltb→lt, lt→ltb, nltb→le, pow_pos, to_z-of_z, w64, to_z, of_z}
+use Rattle.std.proofs.Common.{◌≡◌, ℕ, zero, suc, ◌-◌, ◌*◌, ◌/◌, ◌^◌, ◌≤◌, min, Bool, true, false, not, T, ℤ, pos, negsuc, neg_ℤ, nat_abs, sym, refl, ap, ◌∙◌, subst, true≢false, arith, ltb→lt, nltb→le, to_z-of_z, w64, to_z, of_z}
 use mathlib.Core.Bool.{false≢true}
-use lib.Signed as sgn
 use lib.Signed.{lt_z, non_neg}
-use lib.Ieee.{Float, nan, inf, fin, binary64, is_nan, up, down, lt, le, eq, neg, of_bits, to_unsigned, to_signed}
-use lib.Ieee.Bits.{is_true}
+use lib.Ieee.{Float, nan, inf, fin, up, down, to_unsigned, to_signed}
 use lib.Ieee.Casts.{to_signed_in}
-use lib.Ieee.Fits.{down_pos}
-use Rattle.integers.proofs.Machine.{false-T}
 use Rattle.integers.proofs.Int.{plus, neg-fact}
-
--- ---- `x as i64` beyond the range
-
--- a fraction X / D that is not below n
-reaches : (X D n : ℕ) → 0 < D → ltb (X * 1) (n * D) ≡ false → n ≤ X / D
-reaches X D n P t = (le-div_iff_mul-le P).1 (subst (λ (i : ℕ). n * D ≤ i) (mul-one X) (nltb→le (X * 1) (n * D) (false-T (ltb (X * 1) (n * D)) t)))
-
-some : (a b : ℕ) → 0 < b → ltb 0 (a + b) ≡ true
-some a b h = is_true (ltb 0 (a + b)) (lt→ltb 0 (a + b) (omega arith))
-
-some_left : (a b : ℕ) → 0 < a → ltb 0 (a + b) ≡ true
-some_left a b h = is_true (ltb 0 (a + b)) (lt→ltb 0 (a + b) (omega arith))
-
-left-of : (a b : Bool) → (a || b) ≡ false → a ≡ false
-left-of true b e = e
-left-of false b e = refl
-
-pub above-range : (x : Float) → T (not (is_nan x)) → lt x (of_bits binary64 0x43e0_0000_0000_0000) ≡ false → pos 9223372036854775807 ≡ to_signed 63 x
-unfolding is_nan lt of_bits to_signed
-above-range nan n t = absurd n
-above-range (inf true) n t = absurd (true≢false t)
-above-range (inf false) n t = refl
-above-range (fin true m e) n t = absurd (true≢false (sym (some (m * up e * 1) (9223372036854775808 * down e) (mul-pos (pow_pos 63) (down_pos e))) ∙ t))
-above-range (fin false m e) n t = ap pos (cap (m * up e / down e) (reaches (m * up e) (down e) 9223372036854775808 (down_pos e) t))
-  where
-    cap : (a : ℕ) → 9223372036854775808 ≤ a → 9223372036854775807 ≡ min a 9223372036854775807
-    cap a h = omega arith
-
-pub below-range : (x : Float) → lt x (of_bits binary64 0x43e0_0000_0000_0000) ≡ true → le (neg (of_bits binary64 0x43e0_0000_0000_0000)) x ≡ false → negsuc 9223372036854775807 ≡ to_signed 63 x
-unfolding lt le eq neg of_bits to_signed
-below-range nan h t = absurd (false≢true h)
-below-range (inf true) h t = refl
-below-range (inf false) h t = absurd (false≢true h)
-below-range (fin false m e) h t = absurd (true≢false (sym (some_left (9223372036854775808 * down e) (m * up e * 1) (mul-pos (pow_pos 63) (down_pos e))) ∙ left-of (ltb 0 (9223372036854775808 * down e + m * up e * 1)) (eq (fin true 1 (pos 63)) (fin false m e)) t))
-below-range (fin true m e) h t =
-    ap (λ (n : ℕ). neg_ℤ (pos n)) (cap (m * up e / down e) (reaches (m * up e) (down e) 9223372036854775808 (down_pos e) (left-of (ltb (m * up e * 1) (9223372036854775808 * down e)) (eq (fin true 1 (pos 63)) (fin true m e)) t)))
-  where
-    cap : (a : ℕ) → 9223372036854775808 ≤ a → 9223372036854775808 ≡ min a 9223372036854775808
-    cap a h = omega arith
-
-pub signed-nan : pos 0 ≡ to_signed 63 nan
-unfolding to_signed
-signed-nan = refl
 
 narrow : (a b c : ℕ) → c ≤ b → min a (c - 1) ≡ min (min a (b - 1)) (c - 1)
 narrow a b c h = omega arith
@@ -113,7 +66,7 @@ to_unsigned-narrow k (fin true m e) l = go (2 ^ k) (neg-fact (pos (min (m * up e
 to_unsigned-narrow k (fin false m e) l = narrow (m * up e / down e) 9223372036854775808 (2 ^ k) l
 
 -- ---- a result of `as_i64` read back
-read_back : (x : Float) (r : ℤ) → r ≡ to_signed 63 x → to_z w64 (of_z w64 r) ≡ to_signed 63 x
+pub read_back : (x : Float) (r : ℤ) → r ≡ to_signed 63 x → to_z w64 (of_z w64 r) ≡ to_signed 63 x
 read_back x r e = ap (λ (z : ℤ). to_z w64 (of_z w64 z)) e ∙ to_z-of_z {w = w64} (record { sfits = to_signed_in 63 x })
 
 -- ---- kept within the range from 0 to K, and from -(K + 1) to K
@@ -128,30 +81,6 @@ high-plus (negsuc n) K t = absurd (false≢true t)
 kept-plus : (z : ℤ) (K : ℕ) → lt_z z (pos 0) ≡ false → lt_z (pos K) z ≡ false → T (non_neg z) × (nat_abs z ≤ K) × (nat_abs z ≡ min (plus z) K)
 kept-plus (pos n) K t u = let l : n ≤ K = nltb→le K n (subst (λ (b : Bool). T (not b)) (sym u) tt) in (tt, l, omega arith)
 kept-plus (negsuc n) K t u = absurd (true≢false t)
-
-clamp-low : (z : ℤ) (K : ℕ) → lt_z z (negsuc K) ≡ true → negsuc K ≡ clamp (suc K) z
-clamp-low (pos n) K t = absurd (false≢true t)
-clamp-low (negsuc n) K t = ap (λ (k : ℕ). neg_ℤ (pos k)) (go n K (ltb→lt K n (subst T (sym t) tt)))
-  where
-    go : (n K : ℕ) → K < n → suc K ≡ min (suc n) (suc K)
-    go n K l = omega arith
-
-clamp-high : (z : ℤ) (K : ℕ) → lt_z (pos K) z ≡ true → pos K ≡ clamp (suc K) z
-clamp-high (pos n) K t = ap pos (go n K (ltb→lt K n (subst T (sym t) tt)))
-  where
-    go : (n K : ℕ) → K < n → K ≡ min n (suc K - 1)
-    go n K l = omega arith
-clamp-high (negsuc n) K t = absurd (false≢true t)
-
-clamp-kept : (z : ℤ) (K : ℕ) → lt_z z (negsuc K) ≡ false → lt_z (pos K) z ≡ false → (sgn.mag z ≤ K) × (z ≡ clamp (suc K) z)
-clamp-kept (pos n) K t u = let l : n ≤ K = nltb→le K n (subst (λ (b : Bool). T (not b)) (sym u) tt) in (l, ap pos (go n K l))
-  where
-    go : (n K : ℕ) → n ≤ K → n ≡ min n (suc K - 1)
-    go n K l = omega arith
-clamp-kept (negsuc n) K t u = let l : n ≤ K = nltb→le K n (subst (λ (b : Bool). T (not b)) (sym t) tt) in (l, ap (λ (k : ℕ). neg_ℤ (pos k)) (go n K l))
-  where
-    go : (n K : ℕ) → n ≤ K → suc n ≡ min (suc n) (suc K)
-    go n K l = omega arith
 
 -- ---- what each path of a narrower cast returns, for r the result of `as_i64`
 module _ (x : Float) (r : ℤ) (e : r ≡ to_signed 63 x) where
@@ -170,16 +99,3 @@ module _ (x : Float) (r : ℤ) (e : r ≡ to_signed 63 x) where
 
     pub unsigned-kept : lt_z z (pos 0) ≡ false → lt_z (pos (2 ^ k - 1)) z ≡ false → T (non_neg z) × (nat_abs z ≤ 2 ^ k - 1) × (nat_abs z ≡ to_unsigned k x)
     unsigned-kept t u = let p = kept-plus z (2 ^ k - 1) t u in (p.0, p.1, p.2 ∙ unsigned_is)
-
-  module _ (h K : ℕ) (at : suc K ≡ 2 ^ h) (l : 2 ^ h ≤ 2 ^ 63) where
-    signed_is : clamp (suc K) z ≡ to_signed h x
-    signed_is = ap₂ clamp at (read_back x r e) ∙ sym (to_signed-narrow h x l)
-
-    pub signed_low : lt_z z (negsuc K) ≡ true → negsuc K ≡ to_signed h x
-    signed_low t = clamp-low z K t ∙ signed_is
-
-    pub signed_high : lt_z (pos K) z ≡ true → pos K ≡ to_signed h x
-    signed_high t = clamp-high z K t ∙ signed_is
-
-    pub signed-kept : lt_z z (negsuc K) ≡ false → lt_z (pos K) z ≡ false → (sgn.mag z ≤ K) × (z ≡ to_signed h x)
-    signed-kept t u = let p = clamp-kept z K t u in (p.0, p.1 ∙ signed_is)

@@ -95,11 +95,6 @@ module _ (n : ℕ) (small : n ≤ 2 ^ 53) where
   bound : IsWhole (of_int binary64 (pos n)) (pos n)
   bound = of_int-whole binary64 (pos n) small
 
-  pub within-holds : (x : Float) → T (fits binary64 x) → WholeWithin n x → is_whole_within (of_int binary64 (pos n)) x ≡ true
-  unfolding is_whole_within
-  within-holds x h w =
-      rw (eq-holds (trunc-whole x h (whole-finite w.whole)) w.whole refl, le-holds (abs-whole w.whole) bound (le_z_yes (le→leb _ _ w.size)))
-
   pub within-is : (x : Float) → T (fits binary64 x) → is_whole_within (of_int binary64 (pos n)) x ≡ true → WholeWithin n x
   unfolding is_whole_within
   within-is nan h t = absurd (true≢false (sym (both (eq (trunc_f nan) nan) _ t).0 ∙ eq-nan-right (trunc_f nan)))
@@ -109,6 +104,11 @@ module _ (n : ℕ) (small : n ≤ 2 ^ 53) where
       let p = both (eq (trunc_f x) x) _ t in
       let w = same_whole (trunc_f x) x (trunc-whole x h tt) p.0 in
       record { whole = w; size = leb→le _ _ (le_yes (abs-whole w) bound p.1).le }
+
+  pub within-holds : (x : Float) → T (fits binary64 x) → WholeWithin n x → is_whole_within (of_int binary64 (pos n)) x ≡ true
+  unfolding is_whole_within
+  within-holds x h w =
+      rw (eq-holds (trunc-whole x h (whole-finite w.whole)) w.whole refl, le-holds (abs-whole w.whole) bound (le_z_yes (le→leb _ _ w.size)))
 
 -- ---- +0 for a zero: of a whole number it is the f64 of that number
 abs-zero : (z : ℤ) → pos (nat_abs z) ≡ pos 0 → z ≡ pos 0

@@ -2,9 +2,9 @@
 // -0 and subnormals too. The definitions are in specs/, and the laws of whole numbers in f64 in proofs/.
 #![tactic(auto)]
 
-ghost use Rattle.std.specs.Prelude.{◌≡◌, ◌+◌, ◌-◌, ◌*◌, ◌/◌, ◌%◌, ◌^◌, ◌<◌, ◌≤◌, false, from_bits, is_nan, to_bits};
+ghost use Rattle.std.specs.Prelude.{◌≡◌, ℕ, IsTrue, ◌+◌, ◌-◌, ◌*◌, ◌/◌, ◌%◌, ◌^◌, ◌<◌, ◌≤◌, false, from_bits, is_nan, to_bits};
 ghost use Rattle.std.specs.Float.Ieee.Scale.{finite};
-ghost use Rattle.std.specs.Float.{binary64};
+ghost use Rattle.std.specs.Float.{binary64, NotNan, NotNanBits};
 ghost use Rattle.std.specs.Float.Ieee.{round, rem, to_unsigned, to_signed};
 ghost use Rattle.float.specs.Rounding.{trunc_f, floor_f, abs_f, copysign_f, rem_euclid_f, to_integer_or_infinity, is_whole_within};
 ghost use Rattle.float.specs.Inner.{fraction_bits, lead, place};
@@ -47,72 +47,75 @@ fn join_sign(s: u64, b: u64) -> u64
 pub fn is_nan(x: f64) -> bool
     ensures { result ≡ is_nan x }
 {
-    x != x
+    x.is_nan()
 }
 
 // Rust's `is_finite`: neither a NaN nor an infinity.
+#[tactic(auto, using(crate::proofs::Finite::finite_is))]
 pub fn is_finite(x: f64) -> bool
     ensures { result ≡ finite x }
 {
-    x - x == 0.0
+    x.is_finite()
 }
 
 // The pattern of x, Rust's `to_bits`. A NaN's is 7ff8000000000000, whatever its sign and payload were: every NaN handed out has these bits.
 pub fn bits_of(x: f64) -> u64
     ensures { result ≡ to_bits binary64 x }
 {
-    if x != x {
-        return 0x7ff8_0000_0000_0000;
-    }
-    f64::to_bits(x)
+    std::num::f64_to_bits_with_nan(x)
 }
 
 // The value that n is the pattern of, Rust's `from_bits`: a NaN for each pattern of one.
-#[tactic(auto, using(crate::proofs::Patterns::made_above))]
 pub fn of_bits(n: u64) -> f64
     ensures { result ≡ from_bits binary64 n }
 {
-    if without_sign(n) > 0x7ff0_0000_0000_0000 {
-        return 0.0 / 0.0;
+    std::num::f64_from_bits_with_nan(n)
+}
+
+// What `change` makes of the pattern of x, as a value again; a NaN is returned as it came.
+fn by_bits<Change: Fn(u64) -> u64>(x: f64, change: Change) -> f64
+    requires callable { Change.IsAlwaysCallable change }
+    requires number { (r : ℕ) → NotNan x → Change.post change (to_bits binary64 x) r → NotNanBits binary64 r }
+    ensures nan { IsTrue (is_nan x) → result ≡ x }
+    ensures number { NotNan x → (r : ℕ) × Change.post change (to_bits binary64 x) r × (result ≡ from_bits binary64 r) }
+{
+    if x.is_nan() {
+        return x;
     }
-    f64::from_bits(n)
+    f64::from_bits(change(x.to_bits()))
 }
 
 // Rust's `abs`: the sign's bit is cleared.
 pub fn abs(x: f64) -> f64
     ensures { result ≡ abs_f x }
 {
-    if x != x {
-        return x;
-    }
-    f64::from_bits(without_sign(f64::to_bits(x)))
+    by_bits(x, without_sign)
 }
 
-// Rust's `copysign`: the magnitude of x with the sign of y. A NaN y counts as positive.
+// Rust's `copysign`: the magnitude of x with the sign of y. A NaN y counts as positive: so its pattern is.
 pub fn copysign(x: f64, y: f64) -> f64
     ensures { result ≡ copysign_f x y }
 {
-    if x != x {
-        return x;
-    }
-    if y != y {
-        return abs(x);
-    }
-    f64::from_bits(join_sign(f64::to_bits(y), f64::to_bits(x)))
+    let sign = bits_of(y);
+    by_bits(
+        x,
+        move |b|
+            ensures { result ≡ sign / 2 ^ 63 * 2 ^ 63 + b % 2 ^ 63 }
+        { join_sign(sign, b) },
+    )
 }
 
 // ---- the whole part and the floor: the bits below the point are cleared
 
 // How many of the lowest bits of a pattern lie below the point, where the exponent's field is e.
+#[tactic(auto, unfolding(crate::specs::Inner::fraction_bits))]
 fn fraction_bits(e: u64) -> u64
     ensures { result ≡ fraction_bits e }
 {
     if e < 1023 {
         63
-    } else if e < 1075 {
-        1075 - e
     } else {
-        0
+        1075u64.saturating_sub(e)
     }
 }
 
@@ -140,25 +143,20 @@ fn floor_bits(b: u64) -> u64
 pub fn trunc(x: f64) -> f64
     ensures { result ≡ trunc_f x }
 {
-    if x != x {
-        return x;
-    }
-    f64::from_bits(trunc_bits(f64::to_bits(x)))
+    by_bits(x, trunc_bits)
 }
 
 // Rust's `floor`: toward minus infinity. -0.0 gives -0.0, and -0.5 gives -1.0.
 pub fn floor(x: f64) -> f64
     ensures { result ≡ floor_f x }
 {
-    if x != x {
-        return x;
-    }
-    f64::from_bits(floor_bits(f64::to_bits(x)))
+    by_bits(x, floor_bits)
 }
 
 // ---- the remainder: a magnitude is digits, shifted up by a place, of the smallest value 2 ^ -1074
 
 // The digits of b's magnitude, the leading one with them where the exponent's field is not 0.
+#[tactic(auto, using(crate::proofs::Digits::lead_some))]
 fn lead_bits(b: u64) -> u64
     ensures { result ≡ lead (b / 2 ^ 52 % 2 ^ 11) (b % 2 ^ 52) }
 {
@@ -174,16 +172,16 @@ fn lead_bits(b: u64) -> u64
 fn place_bits(b: u64) -> u64
     ensures { result ≡ place (b / 2 ^ 52 % 2 ^ 11) }
 {
-    let e = exponent(b);
-    if e == 0 { 0 } else { e - 1 }
+    exponent(b).saturating_sub(1)
 }
 
 // The shift that brings q's top bit to bit 52.
+#[tactic(auto, using(crate::proofs::Digits::room_is))]
 fn room(q: u64) -> u64
     requires { (0 < q) × (q < 2 ^ 53) }
     ensures { (2 ^ 52 ≤ q * 2 ^ result) × (q * 2 ^ result < 2 ^ 53) × (result ≤ 52) }
 {
-    (u64::leading_zeros(q) - 11) as u64
+    u64::from(q.leading_zeros() - 11)
 }
 
 // The pattern of q * 2 ^ k times the smallest value.
@@ -202,23 +200,21 @@ fn units_bits(q: u64, k: u64) -> u64
 }
 
 // How many of n's lowest bits, at most d, are all zeros.
+#[tactic(auto, using(crate::proofs::Digits::zeros_fit, crate::proofs::Digits::zeros_whole))]
 fn low_zeros(n: u64, d: u64) -> u64
     requires { 0 < n }
     ensures { (result ≤ d) × (result < 64) × (n / 2 ^ result * 2 ^ result ≡ n) }
 {
-    let z = u64::trailing_zeros(n) as u64;
-    if z < d {
-        return z;
-    }
-    d
+    u64::from(n.trailing_zeros()).min(d)
 }
 
 // q * 2 ^ d % n, as many bits at a time as n leaves above it.
+#[tactic(auto, using(crate::proofs::Digits::room_some, crate::proofs::Digits::stepped, crate::proofs::Digits::finished))]
 fn shifted_rem(q: u64, d: u64, n: u64) -> u64
     requires { (q < n) × (n < 2 ^ 53) }
     ensures { result ≡ q * 2 ^ d % n }
 {
-    let s = u64::leading_zeros(n) as u64;
+    let s = u64::from(n.leading_zeros());
     let mut r = q;
     let mut k = d;
     while s < k {
@@ -252,22 +248,23 @@ fn rem_bits(a: u64, b: u64) -> u64
 }
 
 // Rust's `x % y`, for every two, without the C library's fmod.
+#[tactic(auto, using(crate::proofs::Digits::of_nan, crate::proofs::Digits::by_nan, crate::proofs::Digits::of_infinity, crate::proofs::Digits::by_zero, crate::proofs::Digits::by_infinity, crate::proofs::Digits::of_two, crate::proofs::Digits::no_nan_made))]
 fn remainder(x: f64, y: f64) -> f64
     ensures { result ≡ rem binary64 x y }
 {
-    if x != x {
+    if x.is_nan() {
         return x;
     }
-    if y != y {
+    if y.is_nan() {
         return y;
     }
-    let a = f64::to_bits(x);
-    let b = f64::to_bits(y);
+    let a = x.to_bits();
+    let b = y.to_bits();
     if exponent(a) == 0x7ff {
-        return 0.0 / 0.0;
+        return f64::NAN;
     }
     if without_sign(b) == 0 {
-        return 0.0 / 0.0;
+        return f64::NAN;
     }
     if exponent(b) == 0x7ff {
         return x;
@@ -276,6 +273,7 @@ fn remainder(x: f64, y: f64) -> f64
 }
 
 // Rust's `rem_euclid`: x % y, and |y| more, rounded once, where that is below zero. A multiple of y below zero gives -0.0.
+#[tactic(auto, unfolding(crate::specs::Rounding::rem_euclid_f))]
 pub fn rem_euclid(x: f64, y: f64) -> f64
     ensures { result ≡ rem_euclid_f x y }
 {
@@ -290,17 +288,15 @@ pub fn rem_euclid(x: f64, y: f64) -> f64
 pub fn is_whole_within(x: f64, most: f64) -> bool
     ensures { result ≡ is_whole_within most x }
 {
-    if x != x {
-        return false;
-    }
     if abs(x) <= most {
-        let b = f64::to_bits(x);
+        let b = x.to_bits();
         return trunc_bits(b) == b;
     }
     false
 }
 
 // A whole number as an integer. A sum with 0.0 is never -0, which the cast does not take.
+#[tactic(auto, using(crate::proofs::Casts::exact_taken, crate::proofs::Casts::exact_back))]
 pub fn exact_i64(x: f64) -> i64
     requires { WholeWithin (2 ^ 53) x }
     ensures { result ≡ trunc_z x }
@@ -315,69 +311,39 @@ pub fn as_i64(x: f64) -> i64
     if is_whole_within(x, 9007199254740992.0) {
         return exact_i64(x);
     }
-    if x < 9223372036854775808.0 {
-        if x >= -9223372036854775808.0 {
-            std::num::truncating_f64_to_i64(x)
-        } else {
-            -0x7fff_ffff_ffff_ffff - 1
-        }
-    } else if x != x {
-        0
-    } else {
-        0x7fff_ffff_ffff_ffff
-    }
+    std::num::saturating_f64_to_i64(x)
 }
 
 // Rust's `x as i32`.
-#[tactic(auto, using(crate::proofs::Narrow::i32_low, crate::proofs::Narrow::i32_high, crate::proofs::Narrow::i32_kept))]
+#[tactic(auto, using(crate::proofs::Narrow::i32_clamped))]
 pub fn as_i32(x: f64) -> i32
     ensures { result ≡ to_signed 31 x }
 {
-    let z = as_i64(x);
-    if z < -0x8000_0000 {
-        -0x8000_0000
-    } else if z > 0x7fff_ffff {
-        0x7fff_ffff
-    } else {
-        z as i32
-    }
+    as_i64(x).clamp(-0x8000_0000, 0x7fff_ffff) as i32
 }
 
 // Rust's `x as u16`.
-#[tactic(auto, using(crate::proofs::Narrow::u16_low, crate::proofs::Narrow::u16_high, crate::proofs::Narrow::u16_kept))]
+#[tactic(auto, using(crate::proofs::Narrow::u16_clamped))]
 pub fn as_u16(x: f64) -> u16
     ensures { result ≡ to_unsigned 16 x }
 {
-    let z = as_i64(x);
-    if z < 0 {
-        0
-    } else if z > 0xffff {
-        0xffff
-    } else {
-        z as u16
-    }
+    as_i64(x).clamp(0, 0xffff) as u16
 }
 
 // Rust's `x as u8`.
-#[tactic(auto, using(crate::proofs::Narrow::u8_low, crate::proofs::Narrow::u8_high, crate::proofs::Narrow::u8_kept))]
+#[tactic(auto, using(crate::proofs::Narrow::u8_clamped))]
 pub fn as_u8(x: f64) -> u8
     ensures { result ≡ to_unsigned 8 x }
 {
-    let z = as_i64(x);
-    if z < 0 {
-        0
-    } else if z > 0xff {
-        0xff
-    } else {
-        z as u8
-    }
+    as_i64(x).clamp(0, 0xff) as u8
 }
 
 // ECMA-262, ToIntegerOrInfinity of a number: NaN and -0.5 give +0.0, an infinity is itself, and any other is cut toward zero.
+#[tactic(auto, using(crate::proofs::Integer::of_nan, crate::proofs::Integer::of_zero, crate::proofs::Integer::of_other))]
 pub fn to_integer_or_infinity(x: f64) -> f64
     ensures { result ≡ to_integer_or_infinity x }
 {
-    if x != x {
+    if x.is_nan() {
         return 0.0;
     }
     let t = trunc(x);

@@ -1,16 +1,18 @@
 -- Two's complement of any width: `twos_complement` is what the machine's signed integers are, and always in their range. Assumes nothing.
 use mathlib.Core.Path.{◌≡◌, refl, sym, ap, subst, ◌∙◌}
+use mathlib.Core.Bool.{Bool, true, false, not}
 use mathlib.Core.List.{List}
 use Prim.Native.Nat.{ℕ, zero, suc, ◌+◌, ◌*◌, ◌-◌, ◌%◌, ◌^◌, ◌≤◌, ◌<◌}
-use native.Mathlib.Nat.{zero-add, add-zero, add-suc, add_assoc, mul_assoc, mul-add, mod-eq_of_lt, add-mod_right, mod-lt}
+use native.Mathlib.Nat.{add-zero, add-suc, add_assoc, mul_assoc, mul-add, mod-eq_of_lt, add-mod_right, mod-lt}
 use native.Mathlib.Omega.{arith}
+use lib.Dec.{T, ltb, ltb→lt, nltb→le}
 use lib.IntN.{ℤ, pos, negsuc, ◌-ℤ◌}
 use lib.ListN.{get_or}
 use lib.Pow.{pow-add}
 use lib.Signed.{mag}
-use mir.Syntax.{Width}
-use mir.Val.{SFits, to_z, hbits}
-use mir.ValLaws.{to_z_pos}
+use mir.Syntax.{Width, w32, w64}
+use mir.Val.{to_z, bits, hbits}
+use mir.ValLaws.{to_z_pos, to_z-neg}
 use Rattle.integers.proofs.Int.{plus, minus, ints, diff-fact}
 use Rattle.little_endian.specs.Bytes.{little_endian, twos_complement}
 
@@ -40,16 +42,23 @@ module _ (b h : ℕ) (half : 2 ^ (b - 1) ≡ h) (all : 2 ^ b ≡ h + h) where
           in-half (pos n) k = omega arith
           in-half (negsuc n) k = omega arith
 
--- -1 less a number that fits is how the code makes the upper half
-minus_one : (y : ℕ) → negsuc 0 -ℤ pos y ≡ negsuc y
-minus_one zero = refl
-minus_one (suc y) = ap (λ (k : ℕ). negsuc (suc k)) (zero-add y)
+-- what the machine reads as signed
+as-signed : (w : Width) (h x : ℕ) → 2 ^ (bits w - 1) ≡ h → 2 ^ hbits w ≡ h → 2 ^ bits w ≡ h + h → x < h + h → to_z w x ≡ twos_complement (bits w) x
+as-signed w h x half low all l = go (ltb x h) (ltb→lt x h) (nltb→le x h)
+  where
+    go : (b : Bool) → (T b → x < h) → (T (not b) → h ≤ x) → to_z w x ≡ twos_complement (bits w) x
+    go true y n = to_z_pos w x (rw low (y tt)) ∙ sym (signed_low (bits w) h half all x (y tt))
+    go false y n =
+        let k = n tt in
+        let y = h + h - suc x in
+        let e : x ≡ 2 ^ bits w - suc y = rw all (omega arith) in
+        ap (to_z w) e ∙ to_z-neg w y (rw low (omega arith)) ∙ sym (signed_high (bits w) h half all x y (omega arith) (omega arith))
 
-pub below-zero : (w : Width) (y : ℕ) → y < 2 ^ hbits w → negsuc 0 -ℤ to_z w y ≡ negsuc y
-below-zero w y h = ap (λ (z : ℤ). negsuc 0 -ℤ z) (to_z_pos w y h) ∙ minus_one y
+pub as_signed_32 : (x : ℕ) → x < 2 ^ 32 → to_z w32 x ≡ twos_complement 32 x
+as_signed_32 x l = as-signed w32 2147483648 x refl refl refl l
 
-pub below-zero-fits : (w : Width) (y : ℕ) → y < 2 ^ hbits w → SFits w (negsuc 0 -ℤ to_z w y)
-below-zero-fits w y h = subst (SFits w) (sym (below-zero w y h)) (record { sfits = h })
+pub as_signed_64 : (x : ℕ) → x < 2 ^ 64 → to_z w64 x ≡ twos_complement 64 x
+as_signed_64 x l = as-signed w64 9223372036854775808 x refl refl refl l
 
 -- ---- low byte first: a number of m + n bytes is its lower m and, that much higher, the n past them
 pub little_endian-join : (m n : ℕ) (bytes : List ℕ) (at : ℕ) → little_endian (m + n) bytes at ≡ little_endian m bytes at + 256 ^ m * little_endian n bytes (at + m)

@@ -1,5 +1,5 @@
 -- `float::rem_bits` meets its contract. Assumes nothing.
-use Rattle.std.proofs.Common.{ℕ, ◌+◌, ◌-◌, ◌*◌, ◌/◌, ◌%◌, ◌^◌, ◌<◌, ◌≤◌, false, sym, ap, ◌∙◌, subst, lt_trans, lt_of_le_of_lt, mod-lt, div-le_self, arith, pow_pos}
+use Rattle.std.proofs.Common.{ℕ, ◌+◌, ◌-◌, ◌*◌, ◌/◌, ◌%◌, ◌^◌, ◌<◌, ◌≤◌, false, sym, ap, ◌∙◌, subst, lt_of_le_of_lt, mod-lt, div-le_self, arith, pow_pos}
 use lib.Ieee.{binary64, of_bits, round}
 use Rattle.float.specs.Inner.{place}
 use Rattle.float.proofs.Clearing.{lead-lt}
@@ -50,9 +50,6 @@ returns-then-i-j c =
     rem-less (a c.before) (b c.before) (start c.before).ranges.a.fits (start c.before).ranges.b.fits (start c.before).requires.0 (start c.before).requires.1 (start c.before).requires.2
     (subst (λ (z : ℕ). z < place (b c.before / 2 ^ 52 % 2 ^ 11)) c.place_bits-i.ensures (subst (λ (z : ℕ). i c.before < z) c.place_bits-j.ensures c.if-i-j.true))
 
-pub low_zeros-c-requires : goal.low_zeros-c-requires
-low_zeros-c-requires c = n_pos c.before
-
 -- the divisor's digits without the zeros
 module _ (c : After-low_zeros-c) where
   abbrev p : After-place_bits-j
@@ -67,20 +64,8 @@ module _ (c : After-low_zeros-c) where
   w-lt : w < 2 ^ 53
   w-lt = lt_of_le_of_lt (div-le_self (n p) (2 ^ c.low_zeros-c.result)) (n-lt p)
 
-pub nonzero_rem-m : goal.nonzero_rem-m
-nonzero_rem-m c = w-pos c
-
-pub shifted_rem-requires : goal.shifted_rem-requires
-shifted_rem-requires c = (mod-lt (m (p c)) (w-pos c), w-lt c)
-
 within : (i j c : ℕ) → j ≤ i → c ≤ i - j → i ≤ 2045 → j + c ≤ 2045
 within i j c a b d = omega arith
-
-pub units_bits-requires : goal.units_bits-requires
-units_bits-requires c = (
-  subst (λ (z : ℕ). z < 2 ^ 53) (sym c.shifted_rem.ensures) (lt_trans (mod-lt (m (p c.before) % w c.before * 2 ^ (i (p c.before) - j (p c.before) - c.low_zeros-c.result)) (w-pos c.before)) (w-lt c.before)),
-  within (i (p c.before)) (j (p c.before)) c.low_zeros-c.result c.if-i-j.false c.low_zeros-c.ensures.0 (i-le (p c.before)),
-)
 
 pub returns : goal.returns
 returns c =
