@@ -24,13 +24,6 @@ use Rattle.calendar.specs.Calendar.{num, day_f, day_from_year_f, time_from_year_
 use Rattle.calendar.proofs.Counting.{mod-counted, unit-counted, week-day-counted}
 use Rattle.calendar.proofs.Whole.{shown-small, day-whole, day-from-year-whole, time-from-year-whole, week-day-whole, hour-from-time-whole, min-from-time-whole, sec-from-time-whole, ms-from-time-whole}
 
--- ---- what the two tests say, of the answer r that was given
-pub shown-within : {t : Float} {r : Bool} → fits binary64 t ≡ true → r ≡ is_whole_within (num 8_640_000_086_399_000) t → r ≡ true → WholeWithin 8_640_000_086_399_000 t
-shown-within {t} g e h = within-is 8640000086399000 (lit≤ tt) t (true-T (fits binary64 t) g) (sym e ∙ h)
-
-pub near_within : (y : ℤ) {r : Bool} → r ≡ leb (nat_abs y) 280_001 → r ≡ true → nat_abs y ≤ 280_001
-near_within y e h = leb-true (nat_abs y) 280001 (sym e ∙ h)
-
 -- a year's first day is after z where its time is: it is a whole number of days
 day-order : (z d : ℤ) → lt_z (day_of_time z -ℤ d) (pos 0) ≡ lt_z z (pos 86_400_000 *ℤ d)
 day-order z d =

@@ -3,7 +3,7 @@ use mathlib.Core.Path.{ap, ◌∙◌}
 use lib.IntN.{ℤ}
 use Rattle.integers.proofs.Machine.{kept}
 use Rattle.calendar.specs.Calendar.{day_within_f, day_within_year_f}
-use Rattle.calendar.proofs.Step.{of-32}
+use Rattle.calendar.proofs.Wrap.{of-32}
 use Rattle.calendar.proofs.day_within_year.Goals as goal
 
 pub returns : goal.returns
