@@ -1,6 +1,6 @@
 -- Years, days and times counted from far back, in unsigned numbers: with the year y as n = y + 400 k - 1 its first day and its leap day are those of n,
 -- whatever k; and quotients and remainders of a time are those of its count. How large the days of such years are. Assumes nothing.
-use mathlib.Core.Path.{◌≡◌, sym, ap, subst, ◌∙◌}
+use mathlib.Core.Path.{◌≡◌, sym, ap, ap₂, subst, ◌∙◌}
 use mathlib.Core.Bool.{Bool, cond}
 use Prim.Native.Nat.{ℕ, suc, ◌+◌, ◌*◌, ◌-◌, ◌/◌, ◌%◌, ◌≤◌, ◌<◌}
 use native.Mathlib.Nat.{mul-add}
@@ -61,8 +61,8 @@ module _ (n : ℕ) where
   counted = omega (ints, read (at (pos n) -ᵗ at (pos 1199999) +ᵗ at (pos 1200000)))
 
   -- its first day, as the machine takes 439,010,162 from it
-  pub first-day-is : pos (first_day n) -ℤ pos 439_010_162 ≡ day_from_year (year_counted n)
-  first-day-is =
+  pub first_day_is : pos (first_day n) -ℤ pos 439_010_162 ≡ day_from_year (year_counted n)
+  first_day_is =
       let f : pos (first_day n) ≡ day_from_year (year_counted n) +ℤ pos 439010162 = first-day-counted 3000 (year_counted n) n counted in
       omega (ints, f, read (at (day_from_year (year_counted n)) +ᵗ at (pos 439010162)), read (at (pos (first_day n)) -ᵗ at (pos 439010162)))
 
@@ -73,7 +73,7 @@ module _ (n : ℕ) where
   leap-by a b d e f g =
       (λ i. cond (eqb (cond (sym e i) 366 (cond (sym f i) 365 (cond (sym g i) 366 365))) 366) 1 0) ∙ leap-counted 3000 (year_counted n) n counted
 
--- ---- the first of a month, and MakeDay of a date in it: small
+-- ---- the first of a month, and MakeDay of a date in it
 module _ (y : ℤ) (m : ℕ) (h : nat_abs y ≤ 1_000_000) (k : m < 12) where
   pub days-small : days_before (leap_of y) m ≤ 366
   days-small = omega (arith, leap-small y, month-nonempty (leap_of y) m (leap-small y) k, month-within (leap_of y) m (leap-small y) k)
@@ -85,6 +85,16 @@ module _ (y : ℤ) (m : ℕ) (h : nat_abs y ≤ 1_000_000) (k : m < 12) where
   make-day-small d b =
       subst (λ (i : ℤ). nat_abs i ≤ 402_000_000) (sym (make-day-plain y m d k))
       (abs-out (first_of_month y m +ℤ d -ℤ pos 1) (omega (arith, abs-in (first_of_month y m) first_small, abs-in d b, read (at (first_of_month y m) +ᵗ at d -ᵗ at (pos 1)))))
+
+  -- by the year's first day f and the days b before the month
+  pub make-day-by : (d f : ℤ) (b : ℕ) → f ≡ day_from_year y → b ≡ days_before (leap_of y) m
+      → (nat_abs (f +ℤ pos b) ≤ 400_000_000) × (b ≤ 366) × (f +ℤ pos b +ℤ (d -ℤ pos 1) ≡ make_day y (pos m) d)
+  make-day-by d f b e g =
+      let s : f +ℤ pos b ≡ first_of_month y m = ap₂ (λ (i : ℤ) (n : ℕ). i +ℤ pos n) e g in (
+        subst (λ (i : ℤ). nat_abs i ≤ 400_000_000) (sym s) first_small,
+        omega (arith, g, days-small),
+        omega (ints, s, read (at f +ᵗ at (pos b) +ᵗ (at d -ᵗ at (pos 1))), read (at (first_of_month y m) +ᵗ at d -ᵗ at (pos 1))) ∙ sym (make-day-plain y m d k),
+      )
 
 -- ---- a number z counted as n = z + d e, d = k + 1: its quotient by d is counted from e, and its remainder is that of n
 module _ (z : ℤ) (n k e : ℕ) (c : pos n ≡ z +ℤ pos (suc k * e)) where

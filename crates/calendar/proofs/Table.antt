@@ -3,19 +3,17 @@
 use mathlib.Core.Path.{◌≡◌, refl, sym, ap, ◌∙◌, subst}
 use mathlib.Core.Bool.{Bool, cond}
 use mathlib.Core.List.{List, [], ◌∷◌}
-use Prim.Native.Nat.{ℕ, suc, ◌+◌, ◌*◌, ◌-◌, ◌/◌, ◌≤◌, ◌<◌}
+use Prim.Native.Nat.{ℕ, suc, ◌+◌, ◌-◌, ◌/◌, ◌≤◌, ◌<◌}
 use native.Mathlib.Nat.{le_trans}
 use native.Mathlib.Omega.{arith}
 use borrow.Author.Tests.{le-ltb}
-use lib.Dec.{eqb, eqb→eq, leb, leb→le, ltb, ltb→lt, nltb→le, lit≤, lit<}
+use lib.Dec.{eqb, eqb→eq, leb, leb→le, ltb, ltb→lt, nltb→le, lit<}
 use lib.IntN.{pos, nat_abs}
 use lib.ListN.{length, get_or}
-use lib.Ieee.{Float, binary64, of_int}
 use Rattle.ecma262.specs.Date.{month_ends, first_after, days_before, month_of, date_of}
-use Rattle.integers.proofs.Int.{by-test, by_cond}
+use Rattle.integers.proofs.Int.{by-test}
 use Rattle.integers.proofs.Table.{all, all-at}
 use Rattle.ecma262.proofs.Months.{each-month, date-from, month-from, month-small}
-use Rattle.calendar.specs.Calendar.{days_in_year_f, year_from_time_f, in_leap_year_f}
 
 -- of a common year and of a leap year
 unfoldable pub rows : List (List ℕ)

@@ -58,6 +58,7 @@ impl CountedYear {
     }
 
     // DayFromYear: counted so, the first day of the year z is 365 z + z / 4 - z / 100 + z / 400, and day 0 is 439,010,162.
+    #[tactic(auto, using(crate::proofs::Counting::first_day_is))]
     fn first_day(self) -> i64
         ensures { result ≡ day_from_year (year_counted self.count) }
     {
@@ -226,6 +227,7 @@ fn day_within(year: i32, t: f64) -> u16
 }
 
 // DayWithinYear(t)
+#[tactic(auto, unfolding(crate::specs::Calendar::day_within_year_f))]
 pub fn day_within_year(t: f64) -> u16
     ensures { result ≡ day_within_year_f t }
 {
@@ -244,6 +246,7 @@ fn is_leap_year(year: i32) -> bool
 }
 
 // InLeapYear(t)
+#[tactic(auto, using(crate::proofs::Wrap::byte_is), unfolding(crate::specs::Calendar::in_leap_year_f))]
 pub fn in_leap_year(t: f64) -> u16
     ensures { result ≡ in_leap_year_f t }
 {

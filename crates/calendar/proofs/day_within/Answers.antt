@@ -8,7 +8,7 @@ use lib.IntN.{ℤ, pos, negsuc, nat_abs}
 use Prim.Native.Nat.{min}
 use mir.Syntax.{w64}
 use mir.Val.{SFits}
-use lib.Ieee.{Float, binary64, sub, of_int, to_unsigned, to_signed}
+use lib.Ieee.{Float, binary64, sub, of_int, to_signed}
 use Rattle.integers.proofs.Int.{plus}
 use Rattle.integers.proofs.Machine.{kept}
 use Rattle.float.proofs.Saturation.{to_unsigned-narrow}
@@ -25,7 +25,7 @@ returns-in-Some c =
     let x : Float = sub binary64 (day_f c.args.t) (day_from_year_f (of_int binary64 c.args.year)) in
     let f : SFits w64 c.in-Some.days = search rules in
     let exact : c.in-Some.days ≡ to_signed 63 x =
-      c.in-Some.ensures.exact ∙ ap (λ (y : ℤ). to_signed 63 (sub binary64 (day_f c.args.t) (day_from_year_f (of_int binary64 y)))) (kept c.ranges.year) in
+    c.in-Some.ensures.exact ∙ ap (λ (y : ℤ). to_signed 63 (sub binary64 (day_f c.args.t) (day_from_year_f (of_int binary64 y)))) (kept c.ranges.year) in
     ap nat_abs (kept {w = w64} {z = c.clamp.result} (record { sfits = c.clamp.type_inv }))
     ∙ clamped c.in-Some.days c.clamp.result (c.clamp.ensures.value ∙ ap (λ (i : ℤ). int_max (pos 0) (int_min i (pos 65535))) (kept f))
     ∙ ap (λ (i : ℤ). min (plus i) 65535) exact ∙ sym (to_unsigned-narrow 16 x (lit≤ tt))

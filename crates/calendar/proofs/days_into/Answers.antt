@@ -1,19 +1,18 @@
 -- `calendar::days_into` meets its contract: the days of the count and of the year's first, as the f64 operations give their difference.
 -- Assumes nothing.
 use Rattle.std.proofs.lemmas.Int as signed
-use mathlib.Core.Path.{◌≡◌, sym, ap, ap₂, subst, ◌∙◌}
+use mathlib.Core.Path.{◌≡◌, ap, subst, ◌∙◌}
 use Prim.Native.Nat.{◌/◌, ◌≤◌}
 use native.Mathlib.Omega.{arith}
 use lib.IntN.{ℤ, pos, nat_abs, ◌-ℤ◌}
 use lib.Signed.{lt_z}
 use mir.Syntax.{w64}
-use mir.Val.{SFits, to_z, of_z}
-use Rattle.integers.proofs.Int.{abs-in}
-use Rattle.integers.proofs.Machine.{fits64, kept}
+use mir.Val.{to_z, of_z}
+use Rattle.integers.proofs.Machine.{kept}
 use Rattle.ecma262.specs.Date.{day_of_time, day_from_year}
 use Rattle.float.specs.Whole.{trunc_z, WholeWithin}
 use Rattle.calendar.specs.Calendar.{year_counted}
-use Rattle.calendar.proofs.Counting.{count-bound, day-counted}
+use Rattle.calendar.proofs.Counting.{day-counted}
 use Rattle.calendar.proofs.Quick.{days-into-small, starts-quick, within-quick}
 use Rattle.calendar.proofs.days_into.Goals as goal
 use Rattle.calendar.proofs.days_into.Goals.{After-first_day}
@@ -33,29 +32,23 @@ module _ (c : After-first_day) where
   near = subst (λ (y : ℤ). nat_abs y ≤ 280_001) (kept c.ranges.year) c.in_ok-counted.ensures.0
 
   -- ---- the difference, as the machine takes it
+  day : pos (n / 86_400_000) -ℤ pos 439_010_162 ≡ day_of_time (trunc_z c.args.t)
+  day = day-counted (trunc_z c.args.t) n c.in_ok-n.ensures.1
+
+  first : c.first_day.result ≡ day_from_year c.args.year
+  first = c.first_day.ensures ∙ ap day_from_year number
+
   abbrev days : ℤ
   days = day_of_time (trunc_z c.args.t) -ℤ day_from_year c.args.year
 
-  day : to_z w64 (of_z w64 (to_z w64 (n / 86_400_000) -ℤ pos 439_010_162)) ≡ day_of_time (trunc_z c.args.t)
-  day =
-      let small = count-bound (trunc_z c.args.t) n c.in_ok-n.ensures.1 shown.size in
-      let e : to_z w64 (of_z w64 (to_z w64 (n / 86_400_000) -ℤ pos 439_010_162)) ≡ pos (n / 86_400_000) -ℤ pos 439_010_162 = omega (arith, signed.ints, small) in
-      e ∙ day-counted (trunc_z c.args.t) n c.in_ok-n.ensures.1
-
-  first : to_z w64 (of_z w64 c.first_day.result) ≡ day_from_year c.args.year
-  first = kept {w = w64} (record { sfits = c.first_day.type_inv }) ∙ c.first_day.ensures ∙ ap day_from_year number
-
-  difference : to_z w64 (of_z w64 (to_z w64 (n / 86_400_000) -ℤ pos 439_010_162)) -ℤ to_z w64 (of_z w64 c.first_day.result) ≡ days
-  difference = ap₂ ◌-ℤ◌ day first
-
-  fits : SFits w64 days
-  fits = fits64 days (omega (arith, abs-in days (days-into-small shown c.args.year near)))
+  small : nat_abs days ≤ 300_000_000
+  small = days-into-small shown c.args.year near
 
   result-is : to_z w64 (of_z w64 (to_z w64 (of_z w64 (to_z w64 (n / 86_400_000) -ℤ pos 439_010_162)) -ℤ to_z w64 (of_z w64 c.first_day.result))) ≡ days
-  result-is = ap (λ (z : ℤ). to_z w64 (of_z w64 z)) difference ∙ kept fits
+  result-is = omega (arith, signed.ints, day, first, small)
 
 pub overflow_sub-result-2 : goal.overflow_sub-result-2
-overflow_sub-result-2 c = subst (SFits w64) (sym (difference c)) (fits c)
+overflow_sub-result-2 c = omega (arith, signed.ints, day c, first c, small c)
 
 pub returns-clause-exact : goal.returns-clause-exact
 returns-clause-exact c = result-is c ∙ within-quick (shown c) c.args.year (near c)
