@@ -1,6 +1,6 @@
 -- Years, days and times counted from far back, in unsigned numbers: with the year y as n = y + 400 k - 1 its first day and its leap day are those of n,
 -- whatever k; and quotients and remainders of a time are those of its count. How large the days of such years are. Assumes nothing.
-use mathlib.Core.Path.{◌≡◌, sym, ap, subst, ◌∙◌}
+use mathlib.Core.Path.{◌≡◌, sym, ap, ap₂, subst, ◌∙◌}
 use mathlib.Core.Bool.{Bool, cond}
 use Prim.Native.Nat.{ℕ, suc, ◌+◌, ◌*◌, ◌-◌, ◌/◌, ◌%◌, ◌≤◌, ◌<◌}
 use native.Mathlib.Nat.{mul-add}
@@ -15,6 +15,7 @@ use Rattle.ecma262.proofs.Year.{day-bounds}
 use Rattle.ecma262.proofs.Leap.{year_days, days-cycle, leap-small}
 use Rattle.ecma262.proofs.Months.{month-nonempty, month-within}
 use Rattle.ecma262.proofs.Fields.{make-day-plain}
+use Rattle.calendar.specs.Calendar.{year_counted}
 
 -- the first day of the year n
 abbrev pub first_day : ℕ → ℕ
@@ -54,26 +55,25 @@ pub leap-counted : (k : ℕ) (y : ℤ) (n : ℕ) → pos (n + 1) ≡ y +ℤ pos 
 leap-counted k y n e =
     ap (λ (d : ℕ). cond (eqb d 366) 1 0) (days-cycle (pos (n + 1)) ∙ ap year_days (omega (ints, read (at y /ᵗ 400), read (at y +ᵗ at (pos (400 * k))))) ∙ sym (days-cycle y))
 
-pub leap-by : (y : ℕ) (a b d : Bool) → eqb (y % 400) 0 ≡ a → eqb (y % 100) 0 ≡ b → eqb (y % 4) 0 ≡ d
-    → cond (eqb (cond a 366 (cond b 365 (cond d 366 365))) 366) 1 0 ≡ leap_of (pos y)
-unfolding days_in_year
-leap-by y a b d e f g = λ i. cond (eqb (cond (sym e i) 366 (cond (sym f i) 365 (cond (sym g i) 366 365))) 366) 1 0
-
--- ---- with k = 3,000: a year to ±1,000,000, counted as n
-module _ (y : ℤ) (n : ℕ) (h : nat_abs y ≤ 1_000_000) (e : pos (n + 1) ≡ y +ℤ pos (400 * 3_000)) where
-  pub year-bound : n ≤ 2_200_000
-  year-bound = omega (ints, abs-in y h, read (at y +ᵗ at (pos 1200000)))
+-- ---- with k = 3,000, of the year counted as n
+module _ (n : ℕ) where
+  counted : pos (n + 1) ≡ year_counted n +ℤ pos (400 * 3_000)
+  counted = omega (ints, read (at (pos n) -ᵗ at (pos 1199999) +ᵗ at (pos 1200000)))
 
   -- its first day, as the machine takes 439,010,162 from it
-  pub first-day-is : pos (first_day n) -ℤ pos 439_010_162 ≡ day_from_year y
-  first-day-is =
-      let f : pos (first_day n) ≡ day_from_year y +ℤ pos 439010162 = first-day-counted 3000 y n e in
-      omega (ints, f, read (at (day_from_year y) +ᵗ at (pos 439010162)), read (at (pos (first_day n)) -ᵗ at (pos 439010162)))
+  pub first_day_is : pos (first_day n) -ℤ pos 439_010_162 ≡ day_from_year (year_counted n)
+  first_day_is =
+      let f : pos (first_day n) ≡ day_from_year (year_counted n) +ℤ pos 439010162 = first-day-counted 3000 (year_counted n) n counted in
+      omega (ints, f, read (at (day_from_year (year_counted n)) +ᵗ at (pos 439010162)), read (at (pos (first_day n)) -ᵗ at (pos 439010162)))
 
-pub first-day-small : (n : ℕ) → n ≤ 2_200_000 → first_day n ≤ 900_000_000
-first-day-small n h = omega arith
+  -- its leap day, by the tests of the divisors 400, 100 and 4
+  pub leap-by : (a b d : Bool) → eqb ((n + 1) % 400) 0 ≡ a → eqb ((n + 1) % 100) 0 ≡ b → eqb ((n + 1) % 4) 0 ≡ d
+      → cond (eqb (cond a 366 (cond b 365 (cond d 366 365))) 366) 1 0 ≡ leap_of (year_counted n)
+  unfolding days_in_year
+  leap-by a b d e f g =
+      (λ i. cond (eqb (cond (sym e i) 366 (cond (sym f i) 365 (cond (sym g i) 366 365))) 366) 1 0) ∙ leap-counted 3000 (year_counted n) n counted
 
--- ---- the first of a month, and MakeDay of a date in it: small
+-- ---- the first of a month, and MakeDay of a date in it
 module _ (y : ℤ) (m : ℕ) (h : nat_abs y ≤ 1_000_000) (k : m < 12) where
   pub days-small : days_before (leap_of y) m ≤ 366
   days-small = omega (arith, leap-small y, month-nonempty (leap_of y) m (leap-small y) k, month-within (leap_of y) m (leap-small y) k)
@@ -85,6 +85,16 @@ module _ (y : ℤ) (m : ℕ) (h : nat_abs y ≤ 1_000_000) (k : m < 12) where
   make-day-small d b =
       subst (λ (i : ℤ). nat_abs i ≤ 402_000_000) (sym (make-day-plain y m d k))
       (abs-out (first_of_month y m +ℤ d -ℤ pos 1) (omega (arith, abs-in (first_of_month y m) first_small, abs-in d b, read (at (first_of_month y m) +ᵗ at d -ᵗ at (pos 1)))))
+
+  -- by the year's first day f and the days b before the month
+  pub make-day-by : (d f : ℤ) (b : ℕ) → f ≡ day_from_year y → b ≡ days_before (leap_of y) m
+      → (nat_abs (f +ℤ pos b) ≤ 400_000_000) × (b ≤ 366) × (f +ℤ pos b +ℤ (d -ℤ pos 1) ≡ make_day y (pos m) d)
+  make-day-by d f b e g =
+      let s : f +ℤ pos b ≡ first_of_month y m = ap₂ (λ (i : ℤ) (n : ℕ). i +ℤ pos n) e g in (
+        subst (λ (i : ℤ). nat_abs i ≤ 400_000_000) (sym s) first_small,
+        omega (arith, g, days-small),
+        omega (ints, s, read (at f +ᵗ at (pos b) +ᵗ (at d -ᵗ at (pos 1))), read (at (first_of_month y m) +ᵗ at d -ᵗ at (pos 1))) ∙ sym (make-day-plain y m d k),
+      )
 
 -- ---- a number z counted as n = z + d e, d = k + 1: its quotient by d is counted from e, and its remainder is that of n
 module _ (z : ℤ) (n k e : ℕ) (c : pos n ≡ z +ℤ pos (suc k * e)) where

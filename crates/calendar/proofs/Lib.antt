@@ -1,6 +1,5 @@
 pub mod Whole
 pub mod Table
-mod Step
+mod Wrap
 mod Quick
 pub mod Counting
-pub mod LeapDays

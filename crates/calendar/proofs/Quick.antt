@@ -1,35 +1,22 @@
 -- The quick ways in integers give what the f64 operations give, of a whole time of the range and its local shifts: the clock and the weekday
 -- by its count, and the days from a near year's first. Assumes nothing.
 use mathlib.Core.Path.{◌≡◌, sym, ◌∙◌}
-use mathlib.Core.Bool.{Bool, true}
 use Prim.Native.Nat.{ℕ, ◌+◌, ◌/◌, ◌%◌, ◌^◌, ◌≤◌}
 use native.Mathlib.Omega.{arith}
-use borrow.Author.Tests.{leb-true}
-use lib.Dec.{leb, lit≤}
 use lib.IntN.{ℤ, pos, nat_abs, ◌+ℤ◌, ◌-ℤ◌, ◌*ℤ◌}
 use lib.Signed.{lt_z, ◌<ℤ◌, lt_z_yes}
-use lib.Ieee.{Float, binary64, fits, sub, lt, of_int, to_signed}
+use lib.Ieee.{Float, binary64, sub, lt, of_int, to_signed}
 use Rattle.integers.proofs.Int.{ints, abs-in, abs-out, at, ◌-ᵗ◌, ◌*ᵗ◌, ◌/ᵗ◌, read}
-use Rattle.integers.proofs.Machine.{true-T}
 use Rattle.ecma262.specs.Date.{day_of_time, day_from_year}
 use Rattle.ecma262.proofs.Range.{day-range}
 use Rattle.float.specs.Whole.{IsWhole, trunc_z, WholeWithin}
-use Rattle.float.specs.Rounding.{is_whole_within}
-use Rattle.float.proofs.Within.{within-is}
 use Rattle.float.proofs.Casts.{in-63, to_signed-whole}
 use Rattle.float.proofs.Fractions.{same_test}
 use Rattle.float.proofs.Order.{lt-whole}
 use Rattle.float.proofs.Whole.{of_int-whole, sub-whole}
-use Rattle.calendar.specs.Calendar.{num, day_f, day_from_year_f, time_from_year_f, week_day_f, hour_from_time_f, min_from_time_f, sec_from_time_f, ms_from_time_f}
+use Rattle.calendar.specs.Calendar.{day_f, day_from_year_f, time_from_year_f, week_day_f, hour_from_time_f, min_from_time_f, sec_from_time_f, ms_from_time_f}
 use Rattle.calendar.proofs.Counting.{mod-counted, unit-counted, week-day-counted}
 use Rattle.calendar.proofs.Whole.{shown-small, day-whole, day-from-year-whole, time-from-year-whole, week-day-whole, hour-from-time-whole, min-from-time-whole, sec-from-time-whole, ms-from-time-whole}
-
--- ---- what the two tests say, of the answer r that was given
-pub shown-within : {t : Float} {r : Bool} → fits binary64 t ≡ true → r ≡ is_whole_within (num 8_640_000_086_399_000) t → r ≡ true → WholeWithin 8_640_000_086_399_000 t
-shown-within {t} g e h = within-is 8640000086399000 (lit≤ tt) t (true-T (fits binary64 t) g) (sym e ∙ h)
-
-pub near_within : (y : ℤ) {r : Bool} → r ≡ leb (nat_abs y) 280_001 → r ≡ true → nat_abs y ≤ 280_001
-near_within y e h = leb-true (nat_abs y) 280001 (sym e ∙ h)
 
 -- a year's first day is after z where its time is: it is a whole number of days
 day-order : (z d : ℤ) → lt_z (day_of_time z -ℤ d) (pos 0) ≡ lt_z z (pos 86_400_000 *ℤ d)

@@ -1,31 +1,29 @@
--- The table of the days before each month, by one test over its 24 entries; and the month and the date of a day of the year by that table,
+-- The table of the days before each month, by one test over its two rows; and the month and the date of a day of the year by that table,
 -- for every number of a day, also past the year's end. Assumes nothing.
 use mathlib.Core.Path.{◌≡◌, refl, sym, ap, ◌∙◌, subst}
 use mathlib.Core.Bool.{Bool, cond}
 use mathlib.Core.List.{List, [], ◌∷◌}
-use Prim.Native.Nat.{ℕ, suc, ◌+◌, ◌*◌, ◌-◌, ◌/◌, ◌≤◌, ◌<◌}
+use Prim.Native.Nat.{ℕ, suc, ◌+◌, ◌-◌, ◌/◌, ◌≤◌, ◌<◌}
 use native.Mathlib.Nat.{le_trans}
 use native.Mathlib.Omega.{arith}
 use borrow.Author.Tests.{le-ltb}
-use lib.Dec.{eqb, eqb→eq, leb, leb→le, ltb, ltb→lt, nltb→le, lit≤, lit<}
+use lib.Dec.{eqb, eqb→eq, leb, leb→le, ltb, ltb→lt, nltb→le, lit<}
 use lib.IntN.{pos, nat_abs}
 use lib.ListN.{length, get_or}
-use lib.Ieee.{Float, binary64, of_int}
 use Rattle.ecma262.specs.Date.{month_ends, first_after, days_before, month_of, date_of}
-use Rattle.integers.proofs.Int.{by-test, by_cond}
+use Rattle.integers.proofs.Int.{by-test}
 use Rattle.integers.proofs.Table.{all, all-at}
 use Rattle.ecma262.proofs.Months.{each-month, date-from, month-from, month-small}
-use Rattle.calendar.specs.Calendar.{days_in_year_f, year_from_time_f, in_leap_year_f}
 
-unfoldable pub entries : List ℕ
-entries =
-    0 ∷ 31 ∷ 59 ∷ 90 ∷ 120 ∷ 151 ∷ 181 ∷ 212 ∷ 243 ∷ 273 ∷ 304 ∷ 334 ∷
-    0 ∷ 31 ∷ 60 ∷ 91 ∷ 121 ∷ 152 ∷ 182 ∷ 213 ∷ 244 ∷ 274 ∷ 305 ∷ 335 ∷ []
+-- of a common year and of a leap year
+unfoldable pub rows : List (List ℕ)
+rows =
+    (0 ∷ 31 ∷ 59 ∷ 90 ∷ 120 ∷ 151 ∷ 181 ∷ 212 ∷ 243 ∷ 273 ∷ 304 ∷ 334 ∷ []) ∷
+    (0 ∷ 31 ∷ 60 ∷ 91 ∷ 121 ∷ 152 ∷ 182 ∷ 213 ∷ 244 ∷ 274 ∷ 305 ∷ 335 ∷ []) ∷ []
 
--- twelve of a common year, then twelve of a leap year
-pub entry : (leap month : ℕ) → leap ≤ 1 → month < 12 → get_or entries (12 * leap + month) 0 ≡ days_before leap month
-unfolding entries days_before
-entry leap month h k = eqb→eq _ _ (each-month (λ l m. eqb (get_or entries (12 * l + m) 0) (days_before l m)) tt leap month h k)
+pub entry : (leap month : ℕ) → leap ≤ 1 → month < 12 → get_or (get_or rows leap []) month 0 ≡ days_before leap month
+unfolding rows days_before
+entry leap month h k = eqb→eq _ _ (each-month (λ l m. eqb (get_or (get_or rows l []) m 0) (days_before l m)) tt leap month h k)
 
 -- ---- the month of the day d of a year: d / 32 or the month after that, tested at each day up to the 351st
 pub month-by-32 : (leap d : ℕ) → leap ≤ 1 → d < 352 → month_of leap (pos d) ≡ cond (ltb d (days_before leap (d / 32 + 1))) (d / 32) (d / 32 + 1)
@@ -57,11 +55,6 @@ month-by-then leap d h =
     (λ c. let k : d < 365 + leap = ltb→lt d (365 + leap) c in (month-from leap d h k, month-small leap d h k))
     (λ c. let k : 365 + leap ≤ d = nltb→le d (365 + leap) c in
     subst (λ m. (days_before leap m ≤ d) × (m < 12)) (sym (month-late leap d h (omega arith))) (omega arith, lit< tt))
-
--- in_leap_year is 0 or 1
-pub leap-flag : (t : Float) → in_leap_year_f t ≤ 1
-unfolding in_leap_year_f
-leap-flag t = by_cond (λ n. n ≤ 1) (eqb (days_in_year_f (of_int binary64 (year_from_time_f t))) 366) 1 0 (λ _. lit≤ tt) (λ _. lit≤ tt)
 
 -- the date, as the code has it: of the month m and the days b before it
 pub date-number : (leap d m b : ℕ) → leap ≤ 1 → m ≡ month_of leap (pos d) → b ≡ days_before leap m

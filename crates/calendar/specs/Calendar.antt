@@ -96,3 +96,8 @@ sec_from_time_f t = clock_f 1_000 60 t
 -- t.rem_euclid(MS_PER_SECOND) as u16
 unfoldable pub ms_from_time_f : Float → ℕ
 ms_from_time_f t = to_unsigned 16 (rem_euclid_f t (num 1_000))
+
+-- ---- what the code counts
+-- the year that is counted as n, from 1,199,999 back
+abbrev pub year_counted : ℕ → ℤ
+year_counted n = pos n -ℤ pos 1_199_999

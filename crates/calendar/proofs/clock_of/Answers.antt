@@ -3,27 +3,19 @@ use mathlib.Core.Path.{◌≡◌, ap, ◌∙◌}
 use Prim.Native.Nat.{ℕ}
 use lib.Ieee.{Float, binary64, div, of_bits, of_int, to_unsigned}
 use Rattle.float.specs.Rounding.{floor_f, rem_euclid_f}
-use Rattle.float.specs.Whole.{WholeWithin}
 use Rattle.calendar.specs.Calendar.{num, clock_f, hour_from_time_f, min_from_time_f, sec_from_time_f, ms_from_time_f}
-use Rattle.calendar.proofs.Quick.{shown-within, hour-quick, min-quick, sec-quick, ms-quick}
+use Rattle.calendar.proofs.Quick.{hour-quick, min-quick, sec-quick, ms-quick}
 use Rattle.calendar.proofs.clock_of.Goals as goal
-use Rattle.calendar.proofs.clock_of.Goals.{Then-is_shown}
-
-shown : (c : Then-is_shown) → WholeWithin 8_640_000_086_399_000 c.args.t
-shown c = shown-within c.well_formed.0.1 c.is_shown.ensures c.if-is_shown.true
 
 -- the floor of a quotient, modulo a count, as u8
 by-floats : (unit count : ℕ) (t : Float) {q r : Float} {n : ℕ} → q ≡ floor_f (div binary64 t (num unit)) → r ≡ rem_euclid_f q (num count) → n ≡ to_unsigned 8 r → n ≡ clock_f unit count t
 by-floats unit count t p q e = e ∙ ap (to_unsigned 8) (q ∙ ap (λ (x : Float). rem_euclid_f x (num count)) p)
 
-pub count_of-n-requires : goal.count_of-n-requires
-count_of-n-requires c = shown c
-
-pub returns-then-is_shown : goal.returns-then-is_shown
-returns-then-is_shown c =
-    let w = shown c.before in
-    let n = c.count_of-n.result in
-    let e = c.count_of-n.ensures in
+pub returns-in-Some : goal.returns-in-Some
+returns-in-Some c =
+    let n = c.in-Some.n in
+    let w = c.in-Some.ensures.0 in
+    let e = c.in-Some.ensures.1 in
     (hour-quick w n e, min-quick w n e, sec-quick w n e, ms-quick w n e)
 
 pub returns : goal.returns

@@ -1,88 +1,30 @@
 -- `calendar::day_number` meets its contract: MakeDay of a month within its year is the first of the month and the date. Assumes nothing.
-use mathlib.Core.Path.{◌≡◌, sym, ap, ap₂, subst, ◌∙◌}
+use Rattle.std.proofs.lemmas.Int as signed
+use mathlib.Core.Path.{◌≡◌, ap, ◌∙◌}
 use Prim.Native.Nat.{ℕ, ◌≤◌}
 use native.Mathlib.Omega.{arith}
-use lib.IntN.{ℤ, pos, nat_abs, ◌+ℤ◌, ◌-ℤ◌}
-use mir.Syntax.{w64}
-use mir.Val.{SFits, to_z, of_z}
-use mir.Facts.{to_z_pos}
-use Rattle.integers.proofs.Int.{ints, abs-in, at, ◌+ᵗ◌, ◌-ᵗ◌, read}
-use Rattle.integers.proofs.Machine.{fits64, kept}
-use Rattle.ecma262.specs.Date.{day_from_year, leap_of, days_before, first_of_month}
-use Rattle.ecma262.proofs.Leap.{leap-small}
-use Rattle.ecma262.proofs.Fields.{make-day-plain}
-use Rattle.calendar.proofs.Counting.{days-small, first_small}
+use lib.IntN.{pos, nat_abs, ◌+ℤ◌, ◌-ℤ◌}
+use Rattle.integers.proofs.Machine.{kept}
+use Rattle.ecma262.specs.Date.{day_from_year, leap_of, days_before, make_day}
+use Rattle.calendar.specs.Calendar.{year_counted}
+use Rattle.calendar.proofs.Counting.{make-day-by}
 use Rattle.calendar.proofs.day_number.Goals as goal
-use Rattle.calendar.proofs.day_number.Goals.{After-days_before, After-leap, Start}
+use Rattle.calendar.proofs.day_number.Goals.{After-from}
 
--- ---- what the calls give
-leap-is : (c : After-leap) → c.leap.result ≡ leap_of c.args.year
-leap-is c = c.leap.ensures ∙ ap leap_of (kept c.ranges.year)
-
-flag : (c : After-leap) → c.leap.result ≤ 1
-flag c = subst (λ (n : ℕ). n ≤ 1) (sym (leap-is c)) (leap-small c.args.year)
-
-module _ (c : After-days_before) where
-  abbrev s : Start
-  s = c.before.before.before
-
-  abbrev year : ℤ
-  year = s.args.year
-
-  abbrev first : ℤ
-  first = first_of_month year s.args.month
-
-  abbrev rest : ℤ
-  rest = s.args.date -ℤ pos 1
-
-  days-are : c.days_before.result ≡ days_before (leap_of year) s.args.month
-  days-are = c.days_before.ensures ∙ ap (λ (l : ℕ). days_before l s.args.month) (leap-is c.before)
-
-  days-below : c.days_before.result ≤ 366
-  days-below = subst (λ (n : ℕ). n ≤ 366) (sym days-are) (days-small year s.args.month s.requires.0 s.requires.1)
-
-  first-is : to_z w64 (of_z w64 c.first_day.result) +ℤ to_z w64 c.days_before.result ≡ first
-  first-is =
-      ap₂ ◌+ℤ◌
-      (kept {w = w64} (record { sfits = c.first_day.type_inv }) ∙ c.first_day.ensures ∙ ap day_from_year (kept s.ranges.year))
-      (to_z_pos w64 (omega (arith, days-below)) ∙ ap pos days-are)
-
-  -- ---- the sums fit, and are those of whole numbers
-  first-bound : nat_abs first ≤ 400_000_000
-  first-bound = first_small year s.args.month s.requires.0 s.requires.1
-
-  first_fits : SFits w64 first
-  first_fits = fits64 first (omega (arith, abs-in first first-bound))
-
-  rest-fits : SFits w64 rest
-  rest-fits = fits64 rest (omega (arith, abs-in s.args.date s.requires.2, read (at s.args.date -ᵗ at (pos 1))))
-
-  sum_fits : SFits w64 (first +ℤ rest)
-  sum_fits = fits64 (first +ℤ rest) (omega (arith, abs-in first first-bound, abs-in s.args.date s.requires.2, read (at first +ᵗ (at s.args.date -ᵗ at (pos 1)))))
-
-  sum_is : to_z w64 (of_z w64 (to_z w64 (of_z w64 c.first_day.result) +ℤ to_z w64 c.days_before.result)) +ℤ to_z w64 (of_z w64 (to_z w64 (of_z w64 s.args.date) -ℤ pos 1)) ≡ first +ℤ rest
-  sum_is =
-      ap₂ ◌+ℤ◌ (ap (λ (i : ℤ). to_z w64 (of_z w64 i)) first-is ∙ kept first_fits)
-      (ap (λ (i : ℤ). to_z w64 (of_z w64 (i -ℤ pos 1))) (kept s.ranges.date) ∙ kept rest-fits)
-
-pub days_before-requires : goal.days_before-requires
-days_before-requires c = (flag c, c.requires.1)
-
-pub overflow_cast-first : goal.overflow_cast-first
-overflow_cast-first c = record { sfits = omega (arith, days-below c) }
+-- what the calls give
+parts : (c : After-from) → let f = c.first_day.result in let b = c.days_before.result in let a = c.args in
+    (nat_abs (f +ℤ pos b) ≤ 400_000_000) × (b ≤ 366) × (f +ℤ pos b +ℤ (a.date -ℤ pos 1) ≡ make_day a.year (pos a.month) a.date)
+parts c =
+    let a = c.args in
+    let year : year_counted c.of-counted.result.count ≡ a.year = c.of-counted.ensures ∙ kept c.ranges.year in
+    make-day-by a.year a.month c.requires.0 c.requires.1 a.date c.first_day.result c.days_before.result (c.first_day.ensures ∙ ap day_from_year year)
+    (c.days_before.ensures ∙ ap (λ (l : ℕ). days_before l a.month) (c.is_leap.ensures ∙ ap leap_of year))
 
 pub overflow_add-first : goal.overflow_add-first
-overflow_add-first c = subst (SFits w64) (sym (first-is c)) (first_fits c)
-
-pub overflow_sub-result : goal.overflow_sub-result
-overflow_sub-result c = subst (λ (i : ℤ). SFits w64 (i -ℤ pos 1)) (sym (kept (s c).ranges.date)) (rest-fits c)
+overflow_add-first c = omega (arith, signed.ints, parts c, c.from.ensures)
 
 pub overflow_add-result : goal.overflow_add-result
-overflow_add-result c = subst (SFits w64) (sym (sum_is c)) (sum_fits c)
+overflow_add-result c = omega (arith, signed.ints, parts c, c.from.ensures)
 
 pub returns : goal.returns
-returns c =
-    let a = (s c).args in
-    ap (λ (i : ℤ). to_z w64 (of_z w64 i)) (sum_is c) ∙ kept (sum_fits c)
-    ∙ omega (ints, read (at (first c) +ᵗ (at a.date -ᵗ at (pos 1))), read (at (first c) +ᵗ at a.date -ᵗ at (pos 1)))
-    ∙ sym (make-day-plain a.year a.month a.date (s c).requires.1)
+returns c = omega (arith, signed.ints, parts c, c.from.ensures)
