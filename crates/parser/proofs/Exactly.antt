@@ -9,9 +9,10 @@ use Rattle.parser.specs.declared.Time.{Time}
 use Rattle.parser.specs.declared.Time.TheVariants as T
 use Rattle.parser.specs.declared.Zone.{Zone}
 use Rattle.parser.specs.declared.Zone.TheVariants as Z
+use Rattle.std.specs.Prelude.{Result, Ok, Err}
+use Rattle.parser.specs.declared.Fault.{Fault}
+use Rattle.parser.specs.declared.Form.{Form}
 use Rattle.parser.specs.declared.Form.TheVariants as F
-use Rattle.parser.specs.declared.Parsed.{Parsed}
-use Rattle.parser.specs.declared.Parsed.TheVariants as P
 use Rattle.parser.specs.Reading.{Out, ok, fault}
 use Rattle.parser.specs.Inner.{as_year, as_date, as_time, as_zone, as_reading}
 
@@ -61,16 +62,16 @@ zone-value Z.Zulu = refl
 zone-value (Z.ToHour n h) = refl
 zone-value (Z.ToMinute n h m) = refl
 
-answer : Out format.Form → Parsed
-answer (ok (format.Form.date y d) s) = P.Read (F.Date (year_value y) (date_value d))
-answer (ok (format.Form.timed y d t z) s) = P.Read (F.Timed (year_value y) (date_value d) (time_value t) (zone_value z))
-answer (fault f) = P.Refused f
+answer : Out format.Form → Result Form Fault
+answer (ok (format.Form.date y d) s) = Ok (F.Date (year_value y) (date_value d))
+answer (ok (format.Form.timed y d t z) s) = Ok (F.Timed (year_value y) (date_value d) (time_value t) (zone_value z))
+answer (fault f) = Err f
 
-answer-reading : (r : Parsed) → answer (as_reading r) ≡ r
+answer-reading : (r : Result Form Fault) → answer (as_reading r) ≡ r
 unfolding answer
-answer-reading (P.Read (F.Date y d)) = rw (year-value y, date-value d)
-answer-reading (P.Read (F.Timed y d t z)) = rw (year-value y, date-value d, time-value t, zone-value z)
-answer-reading (P.Refused f) = refl
+answer-reading (Ok (F.Date y d)) = rw (year-value y, date-value d)
+answer-reading (Ok (F.Timed y d t z)) = rw (year-value y, date-value d, time-value t, zone-value z)
+answer-reading (Err f) = refl
 
-pub answer-unique : (r q : Parsed) → as_reading r ≡ as_reading q → r ≡ q
+pub answer-unique : (r q : Result Form Fault) → as_reading r ≡ as_reading q → r ≡ q
 answer-unique r q e = sym (answer-reading r) ∙ ap answer e ∙ answer-reading q

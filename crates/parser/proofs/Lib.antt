@@ -1,7 +1,6 @@
 pub mod Examples
 pub mod Runs
 pub mod Steps
-pub mod HourAllowed
 pub mod Numbers
 pub mod Stages
 pub mod Accepts

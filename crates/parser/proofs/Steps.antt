@@ -1,187 +1,106 @@
 -- The steps of the reading at a place of the text: each says what a reader makes of the bytes from there on, from what a test or a stage
 -- of the code showed. Assumes nothing.
-use mathlib.Core.Path.{◌≡◌, refl, ap, subst, ◌∙◌}
+use mathlib.Core.Path.{◌≡◌, refl, sym, ap, subst, ◌∙◌}
 use mathlib.Core.Bool.{Bool, true, false, cond}
-use mathlib.Core.List.{List, []}
-use Prim.Native.Nat.{ℕ, ◌+◌, ◌^◌, ◌≤◌, ◌<◌}
+use mathlib.Core.List.{List, [], ◌∷◌}
+use Prim.Native.Nat.{ℕ, ◌^◌, ◌≤◌, ◌<◌}
 use lib.Dec.{eqb}
-use lib.ListN.{length, drop, get_or, drop_of_length-le}
+use lib.ListN.{drop}
 use native.Mathlib.Omega.{arith}
 use native.Mathlib.Nat.{pow-le-pow_right}
-use borrow.Author.Tests.{le-leb, lt-leb, eq-eqb, ne_eqb, eqb-true, eqb-false}
-use Rattle.ecma262.specs.Format.{Year, Date, Time, Zone, Form}
-use Rattle.ecma262.specs.Format.Year.{six}
-use Rattle.ecma262.specs.Format.Form.{date, timed}
-use Rattle.fast_atoi.specs.Inner.{moved, join4, join8}
+use borrow.Author.Tests.{le-leb}
+use Rattle.std.specs.Prelude.{Option, Some, None}
+use Rattle.ecma262.specs.Digits.{digits}
+use Rattle.fast_atoi.specs.Inner.{from_le_bytes, moved, join4, join8}
 use Rattle.fast_atoi.proofs.Blocks.{from-small}
 use Rattle.fast_atoi.proofs.Joined.{four-joined, eight-joined}
 use Rattle.parser.specs.declared.Fault.{Fault}
-use Rattle.parser.specs.declared.Fault.TheVariants.{Short, Bad, Range}
-use Rattle.parser.specs.declared.Digits.{Digits}
-use Rattle.parser.specs.declared.Digits.TheVariants as N
-use Rattle.parser.specs.declared.Block.{Block}
-use Rattle.parser.specs.declared.Block.TheVariants as B
-use Rattle.parser.specs.Reading.{Out, ok, fault, Reader, after, give, choose, byte, within, digits_after, signed_year, read_year, after_date, after_zone, time_allowed, ending, time_part, rest}
-use Rattle.parser.specs.Inner.{Reads, IsDigits, IsBlock, is_sign, out_digits}
-use Rattle.parser.proofs.Runs.{peel}
+use Rattle.parser.specs.Reading.{Out, ok, fault, Reader, bind, after, give, choose, within, digits_after}
+use Rattle.parser.specs.Inner.{Reads, block_of, optional}
+use Rattle.parser.proofs.Numbers.{number_read}
 
-module _ {A : Type 0} {text : List ℕ} {at : ℕ} where
-  -- nothing is read
-  pub give-now : (a : A) → Reads (give a) text at (ok a (drop at text))
-  unfolding give
-  give-now a = record { same = refl }
+-- what follows a part that may be absent
+abbrev pub option_then : {A : Type 0} → (ℕ → Reader A) → Reader A → Option ℕ → Reader A
+option_then k q None = q
+option_then k q (Some v) = k v
 
-  -- a choice by the next byte
-  module _ (b : ℕ) (p q : Reader A) {o : Out A} where
-    pub choose-end : length text ≤ at → Reads q text at o → Reads (choose b p q) text at o
-    unfolding choose
-    choose-end h e = record { same = rw (drop_of_length-le text h) (rw (drop_of_length-le text h) at e.same) }
+-- a choice by the next byte is what follows the part that may be absent
+pub by_option : {A : Type 0} (b : ℕ) (p : Reader ℕ) (k : ℕ → Reader A) (q : Reader A) (s : List ℕ) → choose b (after p k) q s ≡ bind (optional b p s) (option_then k q)
+unfolding choose after optional give
+by_option b p k q [] = refl
+by_option {A} b p k q (c ∷ s) = pick (eqb c b)
+  where
+    found : (o : Out ℕ) → bind o k ≡ bind (bind o (λ v. give (Some v))) (option_then k q)
+    found (ok v t) = refl
+    found (fault f) = refl
 
-    pub choose_yes : at < length text → get_or text at 0 ≡ b → Reads p text (at + 1) o → Reads (choose b p q) text at o
-    unfolding choose
-    choose_yes h t e = record { same = rw (peel text at h) (simp (eq-eqb _ _ t) e.same) }
+    pick : (x : Bool) → cond x (bind (p s) k) (q (c ∷ s)) ≡ bind (cond x (bind (p s) (λ v. give (Some v))) (ok None (c ∷ s))) (option_then k q)
+    pick true = found (p s)
+    pick false = refl
 
-    pub choose_no : at < length text → (get_or text at 0 ≡ b → ⊥) → Reads q text at o → Reads (choose b p q) text at o
-    unfolding choose
-    choose_no h t e = record { same = rw (peel text at h) (simp (ne_eqb _ _ t) (rw (peel text at h) at e.same)) }
+-- three digits have no bounds but their own
+decimals_free : (s : List ℕ) → optional 46 (after (digits_after 3 0) (within 0 999)) s ≡ optional 46 (digits_after 3 0) s
+unfolding optional choose after give within
+decimals_free [] = refl
+decimals_free (c ∷ s) = ap (λ o. cond (eqb c 46) (bind o (λ v. give (Some v))) (ok None (c ∷ s))) (go (digits_after 3 0 s) refl)
+  where
+    go : (o : Out ℕ) → digits_after 3 0 s ≡ o → bind o (within 0 999) ≡ o
+    go (ok v t) e = let h : v ≤ 999 = omega (arith, (number_read 3 e).small) in simp (le-leb 0 v (omega arith), le-leb v 999 h)
+    go (fault f) e = refl
 
-  -- a byte that is needed
-  module _ (b : ℕ) (k : ℕ → Reader A) where
-    pub byte-end : length text ≤ at → Reads (after (byte b) k) text at (fault Short)
-    unfolding after byte
-    byte-end h = record { same = rw (drop_of_length-le text h) }
-
-    pub byte-no : at < length text → (get_or text at 0 ≡ b → ⊥) → Reads (after (byte b) k) text at (fault Bad)
-    unfolding after byte
-    byte-no h t = record { same = rw (peel text at h) (simp (ne_eqb _ _ t)) }
-
-    pub byte-yes : {o : Out A} → at < length text → get_or text at 0 ≡ b → Reads (k (get_or text at 0)) text (at + 1) o → Reads (after (byte b) k) text at o
-    unfolding after byte
-    byte-yes h t e = record { same = rw (peel text at h) (simp (eq-eqb _ _ t) e.same) }
-
-  -- a number, and what follows it
-  module _ {p : Reader ℕ} (k : ℕ → Reader A) {r : Digits} where
-    pub number-fault : {f : Fault} → Reads p text at (out_digits text r) → r ≡ N.Refused f → Reads (after p k) text at (fault f)
-    unfolding after
-    number-fault h e = record { same = rw (← h.same, e) }
-
-    pub number-value : {v next : ℕ} {o : Out A} → Reads p text at (out_digits text r) → r ≡ N.Value v next → Reads (k v) text next o → Reads (after p k) text at o
-    unfolding after
-    number-value h e g = record { same = rw (← h.same, e) g.same }
-
--- a field's bounds
-module _ (low high v : ℕ) {text : List ℕ} {at : ℕ} where
-  pub within_low : v < low → Reads (within low high v) text at (fault Range)
-  unfolding within
-  within_low l = record { same = simp (lt-leb _ _ l) }
-
-  pub within-high : low ≤ v → high < v → Reads (within low high v) text at (fault Range)
-  unfolding within
-  within-high l u = record { same = simp (le-leb _ _ l, lt-leb _ _ u) }
-
-  pub within_both : low ≤ v → v ≤ high → Reads (within low high v) text at (ok v (drop at text))
-  unfolding within
-  within_both l u = record { same = simp (le-leb _ _ l, le-leb _ _ u) }
-
--- ---- signs
-
-module _ {A : Type 0} {text : List ℕ} {at : ℕ} (p : Bool → Reader A) (q : Reader A) {o : Out A} where
-  pub choose-sign : at < length text → is_sign (get_or text at 0) ≡ true → Reads (p (eqb (get_or text at 0) 45)) text (at + 1) o
-      → Reads (choose 43 (p false) (choose 45 (p true) q)) text at o
-  choose-sign h t e = go (eqb (get_or text at 0) 43) (eqb (get_or text at 0) 45) refl refl t e
-    where
-      go : (x y : Bool) → eqb (get_or text at 0) 43 ≡ x → eqb (get_or text at 0) 45 ≡ y → cond x true y ≡ true → Reads (p y) text (at + 1) o
-          → Reads (choose 43 (p false) (choose 45 (p true) q)) text at o
-      go true true u v t e = absurd (omega (arith, eqb-true (get_or text at 0) 43 u, eqb-true (get_or text at 0) 45 v))
-      go true false u v t e = choose_yes 43 (p false) _ h (eqb-true _ _ u) e
-      go false true u v t e = choose_no 43 (p false) _ h (eqb-false _ _ u) (choose_yes 45 (p true) q h (eqb-true _ _ v) e)
-      go false false u v t e = absurd (let z : ◌≡◌ {A = ℕ} 0 1 = cc in omega arith)
-
-  pub choose-unsigned : at < length text → is_sign (get_or text at 0) ≡ false → Reads q text at o → Reads (choose 43 (p false) (choose 45 (p true) q)) text at o
-  choose-unsigned h t e = go (eqb (get_or text at 0) 43) (eqb (get_or text at 0) 45) refl refl t
-    where
-      go : (x y : Bool) → eqb (get_or text at 0) 43 ≡ x → eqb (get_or text at 0) 45 ≡ y → cond x true y ≡ false → Reads (choose 43 (p false) (choose 45 (p true) q)) text at o
-      go true y u v t = absurd (let z : ◌≡◌ {A = ℕ} 0 1 = cc in omega arith)
-      go false true u v t = absurd (let z : ◌≡◌ {A = ℕ} 0 1 = cc in omega arith)
-      go false false u v t = choose_no 43 (p false) _ h (eqb-false _ _ u) (choose_no 45 (p true) q h (eqb-false _ _ v) e)
-
--- ---- years
-
-module _ {n : Bool} (y : ℕ) {text : List ℕ} {at : ℕ} where
-  pub signed-zero : n ≡ true → y ≡ 0 → Reads (signed_year n y) text at (fault Range)
-  unfolding signed_year
-  signed-zero h e = record { same = rw h (simp (eq-eqb _ _ e)) }
-
-  pub signed-minus : n ≡ true → (y ≡ 0 → ⊥) → Reads (signed_year n y) text at (ok (six n y) (drop at text))
-  unfolding signed_year
-  signed-minus h e = record { same = rw h (simp (ne_eqb _ _ e)) }
-
-  pub signed-plus : n ≡ false → Reads (signed_year n y) text at (ok (six n y) (drop at text))
-  unfolding signed_year
-  signed-plus h = record { same = rw h }
-
-pub year-end : {text : List ℕ} {at : ℕ} → length text ≤ at → Reads read_year text at (fault Short)
-unfolding read_year choose after digits_after
-year-end {text} h = record { same = rw (drop_of_length-le text h) }
+pub by_decimals : {A : Type 0} (k : ℕ → Reader A) (q : Reader A) (s : List ℕ)
+    → choose 46 (after (digits_after 3 0) k) q s ≡ bind (optional 46 (after (digits_after 3 0) (within 0 999)) s) (option_then k q)
+by_decimals k q s = by_option 46 (digits_after 3 0) k q s ∙ ap (λ o. bind o (option_then k q)) (sym (decimals_free s))
 
 -- ---- a block of digits, joined
 
-module _ {text : List ℕ} {at : ℕ} (n : ℕ) {r : Block} where
-  pub block-fault : {f : Fault} → IsBlock text at n r → r ≡ B.Refused f → Reads (digits_after n 0) text at (fault f)
-  block-fault h e = subst (IsBlock text at n) e h
+-- the number whose digits a block is
+record IsDigits (text : List ℕ) (at n block : ℕ) (t : List ℕ) : Type 0 where
+  value : ℕ
+  small : value < 10 ^ n
+  bytes : block ≡ from_le_bytes (digits n value)
+  same : Reads (digits_after n 0) text at (ok value t)
 
-  pub block-value : {block next : ℕ} → IsBlock text at n r → r ≡ B.Value block next → IsDigits text at n block next
-  block-value h e = subst (IsBlock text at n) e h
+pub block_fault : {text : List ℕ} {at : ℕ} (n : ℕ) {f : Fault} → Reads (block_of n) text at (fault f) → Reads (digits_after n 0) text at (fault f)
+unfolding block_of after give
+block_fault {text} {at} n {f} h = record { same = go (digits_after n 0 (drop at text)) h.same }
+  where
+    go : (o : Out ℕ) → fault f ≡ bind o (λ v. give (from_le_bytes (digits n v))) → fault f ≡ o
+    go (ok v t) e = absurd (let z : ◌≡◌ {A = ℕ} 0 1 = cc in omega arith)
+    go (fault g) e = e
 
-module _ {text : List ℕ} {at n block next : ℕ} (d : IsDigits text at n block next) where
-  joined_as : {v : ℕ} → v ≡ d.value → Reads (digits_after n 0) text at (ok v (drop next text))
-  joined_as e = rw e d.same
+number_of : {text : List ℕ} {at : ℕ} (n : ℕ) {block : ℕ} {t : List ℕ} → Reads (block_of n) text at (ok block t) → IsDigits text at n block t
+unfolding block_of after give
+number_of {text} {at} n {block} {t} h = go (digits_after n 0 (drop at text)) refl h.same
+  where
+    go : (o : Out ℕ) → digits_after n 0 (drop at text) ≡ o → ok block t ≡ bind o (λ v. give (from_le_bytes (digits n v))) → IsDigits text at n block t
+    go (ok v u) d e =
+        let b : block ≡ from_le_bytes (digits n v) = cc in
+        let q : t ≡ u = cc in
+        record { value = v; small = (number_read n d).small; bytes = b; same = record { same = rw q (sym d) } }
+    go (fault g) d e = absurd (let z : ◌≡◌ {A = ℕ} 0 1 = cc in omega arith)
 
-  pub block-fits : n ≡ 4 → block < 2 ^ 32
-  block-fits e = subst (λ k. block < 256 ^ k) e (rw d.bytes (from-small n d.value))
+module _ {text : List ℕ} {at : ℕ} (n : ℕ) {block : ℕ} {t : List ℕ} (h : Reads (block_of n) text at (ok block t)) where
+  pub block_fits : n ≡ 4 → block < 2 ^ 32
+  block_fits e = let d = number_of n h in subst (λ k. block < 256 ^ k) e (rw d.bytes (from-small n d.value))
 
-  pub four-read : {v : ℕ} → n ≡ 4 → v ≡ join4 (moved 32 n block) → Reads (digits_after n 0) text at (ok v (drop next text))
-  four-read e h = joined_as (h ∙ ap (λ b. join4 (moved 32 n b)) d.bytes ∙ four-joined n d.value (omega arith) (omega arith) d.small)
+  pub four_read : {v : ℕ} → n ≡ 4 → v ≡ join4 (moved 32 n block) → Reads (digits_after n 0) text at (ok v t)
+  four_read {v} e j =
+      let d = number_of n h in
+      let q : v ≡ d.value = j ∙ ap (λ b. join4 (moved 32 n b)) d.bytes ∙ four-joined n d.value (omega arith) (omega arith) d.small in
+      rw q d.same
 
-  eight-value : {v : ℕ} → 4 ≤ n → n ≤ 8 → v ≡ join8 (moved 64 n block) → v ≡ d.value
-  eight-value l u h = h ∙ ap (λ b. join8 (moved 64 n b)) d.bytes ∙ eight-joined n d.value (omega arith) u d.small
+  eight-value : {v : ℕ} → 4 ≤ n → n ≤ 8 → v ≡ join8 (moved 64 n block) → v ≡ (number_of n h).value
+  eight-value l u j =
+      let d = number_of n h in
+      j ∙ ap (λ b. join8 (moved 64 n b)) d.bytes ∙ eight-joined n d.value (omega arith) u d.small
 
   pub eight_fits : {v : ℕ} → 4 ≤ n → n ≤ 8 → v ≡ join8 (moved 64 n block) → v < 2 ^ 32
-  eight_fits l u h = omega (arith, eight-value l u h, d.small, pow-le-pow_right {n = 10} (omega arith) {i = n} {j = 8} u)
+  eight_fits l u j =
+      let d = number_of n h in
+      omega (arith, eight-value l u j, d.small, pow-le-pow_right {n = 10} (omega arith) {i = n} {j = 8} u)
 
-  pub eight-read : {v : ℕ} → 4 ≤ n → n ≤ 8 → v ≡ join8 (moved 64 n block) → Reads (digits_after n 0) text at (ok v (drop next text))
-  eight-read l u h = joined_as (eight-value l u h)
+  pub eight_read : {v : ℕ} → 4 ≤ n → n ≤ 8 → v ≡ join8 (moved 64 n block) → Reads (digits_after n 0) text at (ok v t)
+  eight_read l u j = rw (eight-value l u j) (number_of n h).same
 
--- ---- the ends of a text
-
-module _ (text : List ℕ) (next : ℕ) (y : Year) (d : Date) (t : Time) (z : Zone) where
-  pub ending-more : next < length text → fault (after_zone z) ≡ ending y d t z (drop next text)
-  unfolding ending
-  ending-more h = rw (peel text next h)
-
-  pub ending-allowed : length text ≤ next → time_allowed t ≡ true → ok (timed y d t z) [] ≡ ending y d t z (drop next text)
-  unfolding ending
-  ending-allowed h e = rw (drop_of_length-le text h, e)
-
-  pub ending-refused : length text ≤ next → time_allowed t ≡ false → fault Range ≡ ending y d t z (drop next text)
-  unfolding ending
-  ending-refused h e = rw (drop_of_length-le text h, e)
-
-module _ (text : List ℕ) (next : ℕ) (y : Year) (d : Date) where
-  pub rest_end : length text ≤ next → ok (date y d) [] ≡ rest y d (drop next text)
-  unfolding rest
-  rest_end h = rw (drop_of_length-le text h)
-
-  pub rest-other : next < length text → (get_or text next 0 ≡ 84 → ⊥) → fault (after_date d) ≡ rest y d (drop next text)
-  unfolding rest
-  rest-other h e = rw (peel text next h) (simp (ne_eqb _ _ e))
-
-  pub rest-time : {x : Out Form} → next < length text → get_or text next 0 ≡ 84 → x ≡ time_part y d (drop (next + 1) text) → x ≡ rest y d (drop next text)
-  unfolding rest
-  rest-time h e g = rw (peel text next h) (simp (eq-eqb _ _ e) g)
-
-pub ruleset steps = (give-now, choose-end, choose_yes, choose_no, byte-end, byte-no, byte-yes, number-fault, number-value, within_low, within-high, within_both)
-
-pub ruleset signs = (choose-sign, choose-unsigned, signed-zero, signed-minus, signed-plus, year-end)
-
-pub ruleset blocks = (block-fault, block-value, block-fits, four-read, eight_fits, eight-read)
+pub ruleset blocks = (block_fault, block_fits, four_read, eight_fits, eight_read)

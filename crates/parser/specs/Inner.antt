@@ -1,9 +1,10 @@
 -- What only inner contracts use. What the code's answers say: the form of a text constructor by constructor, so that nothing is left free,
 -- and a stage's place in the text as the bytes from there on. Definitions only. Assumes nothing.
-use Rattle.std.specs.Prelude.{◌≡◌, List, [], ℕ, ◌^◌, ◌<◌, Bool, true, false, cond, eqb, drop}
+use Rattle.std.specs.Prelude.{◌≡◌, List, [], ◌∷◌, ℕ, ◌+◌, ◌<◌, ◌≤◌, Bool, true, false, cond, eqb, length, drop, Option, Some, None, Result, Ok, Err}
 use Rattle.ecma262.specs.Digits.{digits}
 use Rattle.ecma262.specs.Format as format
 use Rattle.fast_atoi.specs.Inner.{from_le_bytes}
+use Rattle.parser.specs.declared.Fault.{Fault}
 use Rattle.parser.specs.declared.Year.{Year}
 use Rattle.parser.specs.declared.Year.TheVariants.{Four, Six}
 use Rattle.parser.specs.declared.Date.{Date}
@@ -14,21 +15,7 @@ use Rattle.parser.specs.declared.Zone.{Zone}
 use Rattle.parser.specs.declared.Zone.TheVariants as Z
 use Rattle.parser.specs.declared.Form.{Form}
 use Rattle.parser.specs.declared.Form.TheVariants as F
-use Rattle.parser.specs.declared.Parsed.{Parsed}
-use Rattle.parser.specs.declared.Parsed.TheVariants as P
-use Rattle.parser.specs.declared.Digits.{Digits}
-use Rattle.parser.specs.declared.Digits.TheVariants as N
-use Rattle.parser.specs.declared.Block.{Block}
-use Rattle.parser.specs.declared.Block.TheVariants as B
-use Rattle.parser.specs.declared.YearRead.{YearRead}
-use Rattle.parser.specs.declared.YearRead.TheVariants as YR
-use Rattle.parser.specs.declared.DateRead.{DateRead}
-use Rattle.parser.specs.declared.DateRead.TheVariants as DR
-use Rattle.parser.specs.declared.TimeRead.{TimeRead}
-use Rattle.parser.specs.declared.TimeRead.TheVariants as TR
-use Rattle.parser.specs.declared.ZoneRead.{ZoneRead}
-use Rattle.parser.specs.declared.ZoneRead.TheVariants as ZR
-use Rattle.parser.specs.Reading.{Out, ok, fault, Reader, digits_after, after, give}
+use Rattle.parser.specs.Reading.{Out, ok, fault, Reader, digits_after, after, give, choose}
 
 abbrev pub as_year : Year → format.Year
 as_year (Four y) = format.Year.four y
@@ -55,50 +42,51 @@ as_form (F.Date y d) = format.Form.date (as_year y) (as_date d)
 as_form (F.Timed y d t z) = format.Form.timed (as_year y) (as_date d) (as_time t) (as_zone z)
 
 -- nothing is left of a text that was read
-abbrev pub as_reading : Parsed → Out format.Form
-as_reading (P.Read f) = ok (as_form f) []
-as_reading (P.Refused f) = fault f
+abbrev pub as_reading : Result Form Fault → Out format.Form
+as_reading (Ok f) = ok (as_form f) []
+as_reading (Err f) = fault f
 
 -- ---- the stages' answers
+
+-- what a stage answers: the value, as the definition writes it, with the bytes from the place after it on, or the fault
+abbrev pub out : {A B : Type 0} → (A → B) → List ℕ → Result (A × ℕ) Fault → Out B
+out as_value text (Ok r) = ok (as_value r.0) (drop r.1 text)
+out as_value text (Err f) = fault f
+
+-- a number is written as it is
+abbrev pub as_is : {A : Type 0} → A → A
+as_is a = a
 
 -- from the place `at` of the text on, the reader p comes to o
 pub record Reads {A : Type 0} (p : Reader A) (text : List ℕ) (at : ℕ) (o : Out A) : Type 0 where
   pub same : o ≡ p (drop at text)
 
-abbrev pub out_digits : List ℕ → Digits → Out ℕ
-out_digits text (N.Value v next) = ok v (drop next text)
-out_digits text (N.Refused f) = fault f
+-- a text ends at a place, or before it
+pub record Ends (text : List ℕ) (at : ℕ) : Type 0 where
+  pub same : drop at text ≡ []
 
--- a block is the digits of the number read, the first of them in the lowest byte
-pub record IsDigits (text : List ℕ) (at n block next : ℕ) : Type 0 where
-  pub value : ℕ
-  pub small : value < 10 ^ n
-  pub bytes : block ≡ from_le_bytes (digits n value)
-  pub same : Reads (digits_after n 0) text at (ok value (drop next text))
+-- b is the byte at a place of a text
+pub record Next (text : List ℕ) (at b : ℕ) : Type 0 where
+  pub inside : at < length text
+  pub same : drop at text ≡ b ∷ drop (at + 1) text
 
-abbrev pub IsBlock : List ℕ → ℕ → ℕ → Block → Type 0
-IsBlock text at n (B.Value block next) = IsDigits text at n block next
-IsBlock text at n (B.Refused f) = Reads (digits_after n 0) text at (fault f)
+-- b is the digit at a place of a text
+pub record IsDigit (text : List ℕ) (at b : ℕ) : Type 0 where
+  pub here : Next text at b
+  pub low : 48 ≤ b
+  pub high : b ≤ 57
 
--- `+` or `-`
-abbrev pub is_sign : ℕ → Bool
-is_sign b = cond (eqb b 43) true (eqb b 45)
+-- no digit is at a place of a text, which is that fault where one is needed
+pub record NoDigit (text : List ℕ) (at : ℕ) (f : Fault) : Type 0 where
+  pub same : (n v : ℕ) → digits_after (n + 1) v (drop at text) ≡ fault f
 
-abbrev pub out_year : List ℕ → YearRead → Out format.Year
-out_year text (YR.Value y next) = ok (as_year y) (drop next text)
-out_year text (YR.Refused f) = fault f
+-- n digits as a block, the first of them in the lowest byte
+unfoldable pub block_of : ℕ → Reader ℕ
+block_of n = after (digits_after n 0) (λ v. give (from_le_bytes (digits n v)))
 
-abbrev pub out_date : List ℕ → DateRead → Out format.Date
-out_date text (DR.Value d next) = ok (as_date d) (drop next text)
-out_date text (DR.Refused f) = fault f
-
-abbrev pub out_time : List ℕ → TimeRead → Out format.Time
-out_time text (TR.Value t next) = ok (as_time t) (drop next text)
-out_time text (TR.Refused f) = fault f
-
-abbrev pub out_zone : List ℕ → ZoneRead → Out format.Zone
-out_zone text (ZR.Value z next) = ok (as_zone z) (drop next text)
-out_zone text (ZR.Refused f) = fault f
+-- where the next byte is the mark, what p reads after it; else nothing
+unfoldable pub optional : ℕ → Reader ℕ → Reader (Option ℕ)
+optional mark p = choose mark (after p (λ v. give (Some v))) (give None)
 
 -- a year of four digits
 abbrev pub four_digits : Reader format.Year

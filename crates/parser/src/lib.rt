@@ -1,17 +1,14 @@
 // `DateParser` of date/utils.rs up to the form of a text: year, date, time and zone, read from left to right. A stage answers what it read
 // with the place after it, or the first fault. The form keeps how precise the text was and how its year and zone were written; what it
 // denotes is another crate's.
-//
-// Each stage is called in one place, from `parse` or from the stage before it: then it is compiled into its caller, and no slice goes
-// through memory.
 #![tactic(auto)]
 
-ghost use Rattle.std.specs.Prelude.{◌≡◌, ◌≤◌, ◌<◌, drop};
-ghost use Rattle.parser.specs.Reading.{digits_after, field, signed_year, after, read_year, read_day, read_date, read_decimals, read_second, read_time, read_offset_minute, read_offset, read_zone, after_date, after_zone, time_allowed, time_part, read};
-ghost use Rattle.parser.specs.Inner.{Reads, IsBlock, is_sign, four_digits, hour_allowed, out_digits, out_year, out_date, out_time, out_zone, as_year, as_date, as_time, as_zone, as_reading};
+ghost use Rattle.std.specs.Prelude.{◌≡◌, ◌≤◌, drop, MatchOption, MatchResult};
+ghost use Rattle.parser.specs.Reading.{digits_after, byte, within, signed_year, after, read_year, read_day, read_date, read_decimals, read_second, read_time, read_offset_minute, read_offset, read_zone, after_date, after_zone, time_allowed, time_part, read};
+ghost use Rattle.parser.specs.Inner.{Reads, Ends, Next, IsDigit, NoDigit, block_of, four_digits, as_is, optional, hour_allowed, out, as_year, as_date, as_time, as_zone, as_reading};
 
 // Why a text is turned back.
-#[derive(Clone, Copy)]
+#[derive(Clone, Copy, Debug, PartialEq, Eq)]
 pub enum Fault {
     // 5: the text ends where a byte is needed.
     Short,
@@ -80,366 +77,247 @@ pub enum Form {
     Timed(Year, Date, Time, Zone),
 }
 
-#[derive(Clone, Copy)]
-pub enum Parsed {
-    Read(Form),
-    Refused(Fault),
+// What a stage read and the place after it, or the first fault.
+type Read<T> = Result<(T, usize), Fault>;
+
+// ---- bytes and numbers
+
+// The byte at a place, or none at the end.
+fn peek(text: &[u8], at: usize) -> Option<u8>
+    ensures { MatchOption result (Ends text.now at) (Next text.now at) }
+{
+    text.get(at).copied()
 }
 
-// ---- numbers
-
-#[derive(Clone, Copy)]
-enum Digits {
-    Value { value: u32, next: usize },
-    Refused(Fault),
+// The byte that has to stand at a place.
+#[tactic(auto, unfolding(crate::specs::Reading::byte))]
+fn next_expect(text: &[u8], at: usize, expected: u8) -> Read<u8>
+    ensures { Reads (byte expected) text.now at (out as_is text.now result) }
+{
+    match peek(text, at) {
+        None => Err(Fault::Short),
+        Some(b) if b == expected => Ok((b, at + 1)),
+        Some(_) => Err(Fault::Bad),
+    }
 }
 
-// Digits as a block, the first of them in the lowest byte.
-#[derive(Clone, Copy)]
-enum Block {
-    Value { block: u64, next: usize },
-    Refused(Fault),
+// The digit at a place, as its byte.
+#[tactic(auto, using(crate::proofs::Runs::bytes))]
+fn next_ascii_digit(text: &[u8], at: usize) -> Result<u8, Fault>
+    ensures { MatchResult result (IsDigit text.now at) (NoDigit text.now at) }
+{
+    let Some(b) = peek(text, at) else {
+        return Err(Fault::Short);
+    };
+    if b.is_ascii_digit() {
+        Ok(b)
+    } else {
+        Err(Fault::Bad)
+    }
 }
 
 // `n` digits, joined one by one: "When N is small, process digits naively."
-fn few_digits(text: &[u8], at: usize, n: usize) -> Digits
+#[tactic(auto, using(crate::proofs::Runs::runs))]
+fn few_digits(text: &[u8], at: usize, n: usize) -> Read<u32>
     requires { n ≤ 8 }
-    ensures { Reads (digits_after n 0) text.now at (out_digits text.now result) }
+    ensures { Reads (digits_after n 0) text.now at (out as_is text.now result) }
 {
-    let mut value: u32 = 0;
-    let mut next = at;
-    let mut i: usize = 0;
-    while i < n {
-        if text.len() <= next {
-            return Digits::Refused(Fault::Short);
-        }
-        let b = text[next];
-        if b < 48 {
-            return Digits::Refused(Fault::Bad);
-        }
-        if 57 < b {
-            return Digits::Refused(Fault::Bad);
-        }
-        value = 10 * value + (b - 48) as u32;
-        next += 1;
-        i += 1;
+    let mut value = 0;
+    for i in 0..n {
+        let digit = next_ascii_digit(text, at + i)?;
+        value = 10 * value + u32::from(digit - b'0');
     }
-    Digits::Value { value, next }
+    Ok((value, at + n))
 }
 
-// `n` digits as a block.
-fn next_n_ascii_digits(text: &[u8], at: usize, n: usize) -> Block
+// `n` digits as a block, the first of them in the lowest byte.
+#[tactic(auto, using(crate::proofs::Runs::gathers))]
+fn next_n_ascii_digits(text: &[u8], at: usize, n: usize) -> Read<u64>
     requires { n ≤ 8 }
-    ensures { IsBlock text.now at n result }
+    ensures { Reads (block_of n) text.now at (out as_is text.now result) }
 {
-    let mut block: u64 = 0;
-    let mut next = at;
-    let mut i: usize = 0;
-    while i < n {
-        if text.len() <= next {
-            return Block::Refused(Fault::Short);
-        }
-        let b = text[next];
-        if b < 48 {
-            return Block::Refused(Fault::Bad);
-        }
-        if 57 < b {
-            return Block::Refused(Fault::Bad);
-        }
-        block += (b as u64) << (8 * i);
-        next += 1;
-        i += 1;
+    let mut block = 0;
+    for i in 0..n {
+        let digit = next_ascii_digit(text, at + i)?;
+        block += u64::from(digit) << (8 * i);
     }
-    Block::Value { block, next }
+    Ok((block, at + n))
 }
 
 // The number of `n` digits: few are joined as they are read, four as a block of 32 bits, more as one of 64.
-fn parse_n_ascii_digits(text: &[u8], at: usize, n: usize) -> Digits
+#[tactic(auto, using(crate::proofs::Steps::blocks))]
+fn parse_n_ascii_digits(text: &[u8], at: usize, n: usize) -> Read<u32>
     requires { n ≤ 8 }
-    ensures { Reads (digits_after n 0) text.now at (out_digits text.now result) }
+    ensures { Reads (digits_after n 0) text.now at (out as_is text.now result) }
 {
     if n < 4 {
         return few_digits(text, at, n);
     }
-    match next_n_ascii_digits(text, at, n) {
-        Block::Refused(f) => Digits::Refused(f),
-        Block::Value { block, next } => {
-            if n == 4 {
-                return Digits::Value {
-                    value: fast_atoi::process_4(block as u32, n),
-                    next,
-                };
-            }
-            Digits::Value {
-                value: fast_atoi::process_8(block, n) as u32,
-                next,
-            }
-        }
+    let (block, next) = next_n_ascii_digits(text, at, n)?;
+    if n == 4 {
+        return Ok((fast_atoi::process_4(block as u32, n), next));
+    }
+    Ok((fast_atoi::process_8(block, n) as u32, next))
+}
+
+// A field of `n` digits, whose bounds are tested after all are read.
+#[tactic(auto, unfolding(crate::specs::Reading::after, crate::specs::Reading::within))]
+fn read_field(text: &[u8], at: usize, n: usize, low: u32, high: u32) -> Read<u32>
+    requires { n ≤ 8 }
+    ensures { Reads (after (digits_after n 0) (within low high)) text.now at (out as_is text.now result) }
+{
+    let (value, next) = parse_n_ascii_digits(text, at, n)?;
+    if (low..=high).contains(&value) {
+        Ok((value, next))
+    } else {
+        Err(Fault::Range)
     }
 }
 
-// Two digits, whose bounds are tested after both are read.
-fn read_field(text: &[u8], at: usize, low: u32, high: u32) -> Digits
-    ensures { Reads (field low high) text.now at (out_digits text.now result) }
+// Where the next byte is `mark`, a field after it; else nothing.
+#[tactic(auto, unfolding(crate::specs::Inner::optional, crate::specs::Reading::choose, crate::specs::Reading::after, crate::specs::Reading::give))]
+fn field_after(text: &[u8], at: usize, mark: u8, n: usize, low: u32, high: u32) -> Read<Option<u32>>
+    requires { n ≤ 8 }
+    ensures { Reads (optional mark (after (digits_after n 0) (within low high))) text.now at (out as_is text.now result) }
 {
-    match parse_n_ascii_digits(text, at, 2) {
-        Digits::Refused(f) => Digits::Refused(f),
-        Digits::Value { value, next } => {
-            if value < low {
-                return Digits::Refused(Fault::Range);
-            }
-            if high < value {
-                return Digits::Refused(Fault::Range);
-            }
-            Digits::Value { value, next }
+    match peek(text, at) {
+        Some(b) if b == mark => {
+            let (value, next) = read_field(text, at + 1, n, low, high)?;
+            Ok((Some(value), next))
         }
+        _ => Ok((None, at)),
     }
 }
 
 // ---- the year
 
-#[derive(Clone, Copy)]
-enum YearRead {
-    Value(Year, usize),
-    Refused(Fault),
-}
-
 // Six digits after a sign; `-000000` is no year.
-fn signed_year(text: &[u8], at: usize, negative: bool) -> YearRead
-    ensures { Reads (after (digits_after 6 0) (signed_year negative)) text.now at (out_year text.now result) }
+#[tactic(auto, unfolding(crate::specs::Reading::after, crate::specs::Reading::signed_year))]
+fn signed_year(text: &[u8], at: usize, negative: bool) -> Read<Year>
+    ensures { Reads (after (digits_after 6 0) (signed_year negative)) text.now at (out as_year text.now result) }
 {
-    match parse_n_ascii_digits(text, at, 6) {
-        Digits::Refused(f) => YearRead::Refused(f),
-        Digits::Value { value, next } => {
-            if negative {
-                if value == 0 {
-                    return YearRead::Refused(Fault::Range);
-                }
-            }
-            YearRead::Value(
-                Year::Six {
-                    negative,
-                    year: value,
-                },
-                next,
-            )
-        }
+    let (year, next) = parse_n_ascii_digits(text, at, 6)?;
+    if negative && year == 0 {
+        return Err(Fault::Range);
     }
+    Ok((Year::Six { negative, year }, next))
 }
 
-fn four_digit_year(text: &[u8], at: usize) -> YearRead
-    ensures { Reads four_digits text.now at (out_year text.now result) }
+#[tactic(auto, unfolding(crate::specs::Reading::after, crate::specs::Reading::give))]
+fn four_digit_year(text: &[u8], at: usize) -> Read<Year>
+    ensures { Reads four_digits text.now at (out as_year text.now result) }
 {
-    match parse_n_ascii_digits(text, at, 4) {
-        Digits::Refused(f) => YearRead::Refused(f),
-        Digits::Value { value, next } => YearRead::Value(Year::Four(value), next),
-    }
+    let (year, next) = parse_n_ascii_digits(text, at, 4)?;
+    Ok((Year::Four(year), next))
 }
 
-fn parse_year(text: &[u8], at: usize) -> YearRead
-    ensures { Reads read_year text.now at (out_year text.now result) }
+#[tactic(auto, unfolding(crate::specs::Reading::read_year, crate::specs::Reading::choose))]
+fn parse_year(text: &[u8], at: usize) -> Read<Year>
+    ensures { Reads read_year text.now at (out as_year text.now result) }
 {
-    if text.len() <= at {
-        return YearRead::Refused(Fault::Short);
+    match peek(text, at) {
+        Some(sign @ (b'+' | b'-')) => signed_year(text, at + 1, sign == b'-'),
+        _ => four_digit_year(text, at),
     }
-    let b = text[at];
-    if is_sign(b) {
-        return signed_year(text, at + 1, b == b'-');
-    }
-    four_digit_year(text, at)
-}
-
-fn is_sign(b: u8) -> bool
-    ensures { result ≡ is_sign b }
-{
-    if b == b'+' {
-        return true;
-    }
-    b == b'-'
 }
 
 // ---- the date
 
-#[derive(Clone, Copy)]
-enum DateRead {
-    Value(Date, usize),
-    Refused(Fault),
-}
-
 // After a month: `-` and a day, or nothing of the date.
-fn parse_day(text: &[u8], at: usize, month: u32) -> DateRead
-    ensures { Reads (read_day month) text.now at (out_date text.now result) }
+#[tactic(auto, using(crate::proofs::Steps::by_option), unfolding(crate::specs::Reading::read_day, crate::specs::Reading::give))]
+fn parse_day(text: &[u8], at: usize, month: u32) -> Read<Date>
+    ensures { Reads (read_day month) text.now at (out as_date text.now result) }
 {
-    if text.len() <= at {
-        return DateRead::Value(Date::ToMonth(month), at);
-    }
-    if text[at] != b'-' {
-        return DateRead::Value(Date::ToMonth(month), at);
-    }
-    match read_field(text, at + 1, 1, 31) {
-        Digits::Refused(f) => DateRead::Refused(f),
-        Digits::Value { value, next } => DateRead::Value(Date::ToDay { month, day: value }, next),
+    match field_after(text, at, b'-', 2, 1, 31)? {
+        (None, next) => Ok((Date::ToMonth(month), next)),
+        (Some(day), next) => Ok((Date::ToDay { month, day }, next)),
     }
 }
 
 // After a year: `-` and a month, or nothing of the date.
-fn parse_month(text: &[u8], at: usize) -> DateRead
-    ensures { Reads read_date text.now at (out_date text.now result) }
+#[tactic(auto, using(crate::proofs::Steps::by_option), unfolding(crate::specs::Reading::read_date, crate::specs::Reading::give))]
+fn parse_month(text: &[u8], at: usize) -> Read<Date>
+    ensures { Reads read_date text.now at (out as_date text.now result) }
 {
-    if text.len() <= at {
-        return DateRead::Value(Date::ToYear, at);
-    }
-    if text[at] != b'-' {
-        return DateRead::Value(Date::ToYear, at);
-    }
-    match read_field(text, at + 1, 1, 12) {
-        Digits::Refused(f) => DateRead::Refused(f),
-        Digits::Value { value, next } => parse_day(text, next, value),
+    match field_after(text, at, b'-', 2, 1, 12)? {
+        (None, next) => Ok((Date::ToYear, next)),
+        (Some(month), next) => parse_day(text, next, month),
     }
 }
 
 // ---- the time
 
-#[derive(Clone, Copy)]
-enum TimeRead {
-    Value(Time, usize),
-    Refused(Fault),
-}
-
 // After a second: `.` and three digits, or nothing of the time.
-fn parse_decimals(text: &[u8], at: usize, hour: u32, minute: u32, second: u32) -> TimeRead
-    ensures { Reads (read_decimals hour minute second) text.now at (out_time text.now result) }
+#[tactic(auto, using(crate::proofs::Steps::by_decimals), unfolding(crate::specs::Reading::read_decimals, crate::specs::Reading::give))]
+fn parse_decimals(text: &[u8], at: usize, hour: u32, minute: u32, second: u32) -> Read<Time>
+    ensures { Reads (read_decimals hour minute second) text.now at (out as_time text.now result) }
 {
-    if text.len() <= at {
-        return TimeRead::Value(
+    match field_after(text, at, b'.', 3, 0, 999)? {
+        (None, next) => Ok((
             Time::ToSecond {
                 hour,
                 minute,
                 second,
             },
-            at,
-        );
-    }
-    if text[at] != b'.' {
-        return TimeRead::Value(
-            Time::ToSecond {
-                hour,
-                minute,
-                second,
-            },
-            at,
-        );
-    }
-    match parse_n_ascii_digits(text, at + 1, 3) {
-        Digits::Refused(f) => TimeRead::Refused(f),
-        Digits::Value { value, next } => TimeRead::Value(
+            next,
+        )),
+        (Some(ms), next) => Ok((
             Time::ToDecimals {
                 hour,
                 minute,
                 second,
-                ms: value,
+                ms,
             },
             next,
-        ),
+        )),
     }
 }
 
-// After a minute: `:` and a second, or nothing of the time.
-fn parse_second(text: &[u8], at: usize, hour: u32, minute: u32) -> TimeRead
-    ensures { Reads (read_second hour minute) text.now at (out_time text.now result) }
+// After `T`: hour, `:` and minute; then `:` and a second, or nothing of the time.
+#[tactic(auto, using(crate::proofs::Steps::by_option), unfolding(crate::specs::Reading::read_time, crate::specs::Reading::read_second, crate::specs::Reading::after, crate::specs::Reading::give))]
+fn parse_time(text: &[u8], at: usize) -> Read<Time>
+    ensures { Reads read_time text.now at (out as_time text.now result) }
 {
-    if text.len() <= at {
-        return TimeRead::Value(Time::ToMinute { hour, minute }, at);
-    }
-    if text[at] != b':' {
-        return TimeRead::Value(Time::ToMinute { hour, minute }, at);
-    }
-    match read_field(text, at + 1, 0, 59) {
-        Digits::Refused(f) => TimeRead::Refused(f),
-        Digits::Value { value, next } => parse_decimals(text, next, hour, minute, value),
-    }
-}
-
-// After `T`: hour, `:` and minute.
-fn parse_time(text: &[u8], at: usize) -> TimeRead
-    ensures { Reads read_time text.now at (out_time text.now result) }
-{
-    match read_field(text, at, 0, 24) {
-        Digits::Refused(f) => TimeRead::Refused(f),
-        Digits::Value {
-            value: hour,
-            next: i,
-        } => {
-            if text.len() <= i {
-                return TimeRead::Refused(Fault::Short);
-            }
-            if text[i] != b':' {
-                return TimeRead::Refused(Fault::Bad);
-            }
-            match read_field(text, i + 1, 0, 59) {
-                Digits::Refused(f) => TimeRead::Refused(f),
-                Digits::Value { value, next } => parse_second(text, next, hour, value),
-            }
-        }
+    let (hour, after_hour) = read_field(text, at, 2, 0, 24)?;
+    let (_, after_colon) = next_expect(text, after_hour, b':')?;
+    let (minute, after_minute) = read_field(text, after_colon, 2, 0, 59)?;
+    match field_after(text, after_minute, b':', 2, 0, 59)? {
+        (None, next) => Ok((Time::ToMinute { hour, minute }, next)),
+        (Some(second), next) => parse_decimals(text, next, hour, minute, second),
     }
 }
 
 // ---- the zone
 
-#[derive(Clone, Copy)]
-enum ZoneRead {
-    Value(Zone, usize),
-    Refused(Fault),
-}
-
-// After an offset's hour: `:` and a minute, or nothing of the zone.
-fn parse_offset_minute(text: &[u8], at: usize, negative: bool, hour: u32) -> ZoneRead
-    ensures { Reads (read_offset_minute negative hour) text.now at (out_zone text.now result) }
+// After a sign: the offset's hour; then `:` and a minute, or nothing of the zone.
+#[tactic(auto, using(crate::proofs::Steps::by_option), unfolding(crate::specs::Reading::read_offset, crate::specs::Reading::read_offset_minute, crate::specs::Reading::after, crate::specs::Reading::give))]
+fn parse_offset(text: &[u8], at: usize, negative: bool) -> Read<Zone>
+    ensures { Reads (read_offset negative) text.now at (out as_zone text.now result) }
 {
-    if text.len() <= at {
-        return ZoneRead::Value(Zone::ToHour { negative, hour }, at);
-    }
-    if text[at] != b':' {
-        return ZoneRead::Value(Zone::ToHour { negative, hour }, at);
-    }
-    match read_field(text, at + 1, 0, 59) {
-        Digits::Refused(f) => ZoneRead::Refused(f),
-        Digits::Value { value, next } => ZoneRead::Value(
+    let (hour, after_hour) = read_field(text, at, 2, 0, 23)?;
+    match field_after(text, after_hour, b':', 2, 0, 59)? {
+        (None, next) => Ok((Zone::ToHour { negative, hour }, next)),
+        (Some(minute), next) => Ok((
             Zone::ToMinute {
                 negative,
                 hour,
-                minute: value,
+                minute,
             },
             next,
-        ),
-    }
-}
-
-// After a sign: the offset's hour.
-fn parse_offset(text: &[u8], at: usize, negative: bool) -> ZoneRead
-    ensures { Reads (read_offset negative) text.now at (out_zone text.now result) }
-{
-    match read_field(text, at, 0, 23) {
-        Digits::Refused(f) => ZoneRead::Refused(f),
-        Digits::Value { value, next } => parse_offset_minute(text, next, negative, value),
+        )),
     }
 }
 
 // `Z`, an offset, or nothing of the zone.
-fn parse_timezone(text: &[u8], at: usize) -> ZoneRead
-    ensures { Reads read_zone text.now at (out_zone text.now result) }
+#[tactic(auto, unfolding(crate::specs::Reading::read_zone, crate::specs::Reading::choose, crate::specs::Reading::give))]
+fn parse_timezone(text: &[u8], at: usize) -> Read<Zone>
+    ensures { Reads read_zone text.now at (out as_zone text.now result) }
 {
-    if text.len() <= at {
-        return ZoneRead::Value(Zone::Absent, at);
+    match peek(text, at) {
+        Some(b'Z') => Ok((Zone::Zulu, at + 1)),
+        Some(sign @ (b'+' | b'-')) => parse_offset(text, at + 1, sign == b'-'),
+        _ => Ok((Zone::Absent, at)),
     }
-    let b = text[at];
-    if b == b'Z' {
-        return ZoneRead::Value(Zone::Zulu, at + 1);
-    }
-    if is_sign(b) {
-        return parse_offset(text, at + 1, b == b'-');
-    }
-    ZoneRead::Value(Zone::Absent, at)
 }
 
 // ---- the whole text
@@ -468,20 +346,10 @@ fn after_zone(z: Zone) -> Fault
 }
 
 // "Hour 24 is only valid as 24:00:00.000"
-#[tactic(auto, using(crate::proofs::HourAllowed::another_hour, crate::proofs::HourAllowed::no_minute, crate::proofs::HourAllowed::no_second, crate::proofs::HourAllowed::no_ms))]
 fn hour_allowed(hour: u32, minute: u32, second: u32, ms: u32) -> bool
     ensures { result ≡ hour_allowed hour minute second ms }
 {
-    if hour != 24 {
-        return true;
-    }
-    if minute != 0 {
-        return false;
-    }
-    if second != 0 {
-        return false;
-    }
-    ms == 0
+    hour != 24 || minute == 0 && second == 0 && ms == 0
 }
 
 fn time_allowed(t: Time) -> bool
@@ -504,43 +372,29 @@ fn time_allowed(t: Time) -> bool
 }
 
 // After `T`: the time, the zone and the end.
-fn parse_timed(text: &[u8], at: usize, year: Year, date: Date) -> Parsed
+#[tactic(auto, unfolding(crate::specs::Reading::time_part, crate::specs::Reading::after, crate::specs::Reading::ending))]
+fn parse_timed(text: &[u8], at: usize, year: Year, date: Date) -> Result<Form, Fault>
     ensures { as_reading result ≡ time_part (as_year year) (as_date date) (drop at text.now) }
 {
-    match parse_time(text, at) {
-        TimeRead::Refused(f) => Parsed::Refused(f),
-        TimeRead::Value(time, i) => match parse_timezone(text, i) {
-            ZoneRead::Refused(f) => Parsed::Refused(f),
-            ZoneRead::Value(zone, next) => {
-                if next < text.len() {
-                    return Parsed::Refused(after_zone(zone));
-                }
-                if time_allowed(time) {
-                    return Parsed::Read(Form::Timed(year, date, time, zone));
-                }
-                Parsed::Refused(Fault::Range)
-            }
-        },
+    let (time, after_time) = parse_time(text, at)?;
+    let (zone, next) = parse_timezone(text, after_time)?;
+    match peek(text, next) {
+        Some(_) => Err(after_zone(zone)),
+        None if time_allowed(time) => Ok(Form::Timed(year, date, time, zone)),
+        None => Err(Fault::Range),
     }
 }
 
 // The form of a text of any bytes, or the first fault.
-pub fn parse(text: &[u8]) -> Parsed
+#[tactic(auto, unfolding(crate::specs::Reading::read, crate::specs::Reading::after, crate::specs::Reading::rest))]
+pub fn parse(text: &[u8]) -> Result<Form, Fault>
     ensures { as_reading result ≡ read text.now }
 {
-    match parse_year(text, 0) {
-        YearRead::Refused(f) => Parsed::Refused(f),
-        YearRead::Value(year, i) => match parse_month(text, i) {
-            DateRead::Refused(f) => Parsed::Refused(f),
-            DateRead::Value(date, j) => {
-                if text.len() <= j {
-                    return Parsed::Read(Form::Date(year, date));
-                }
-                if text[j] != b'T' {
-                    return Parsed::Refused(after_date(date));
-                }
-                parse_timed(text, j + 1, year, date)
-            }
-        },
+    let (year, after_year) = parse_year(text, 0)?;
+    let (date, next) = parse_month(text, after_year)?;
+    match peek(text, next) {
+        None => Ok(Form::Date(year, date)),
+        Some(b'T') => parse_timed(text, next + 1, year, date),
+        Some(_) => Err(after_date(date)),
     }
 }
