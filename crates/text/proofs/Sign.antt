@@ -4,14 +4,15 @@ use mathlib.Core.List.{List}
 use Prim.Native.Nat.{ℕ, ◌≤◌}
 use native.Mathlib.Omega.{arith}
 use lib.ListN.{length}
-use lib.IntN.{ℤ, nat_abs}
+use lib.IntN.{ℤ, pos, negsuc, nat_abs}
 use mir.Syntax.{w32}
 use mir.Val.{SFits, to_z, of_z}
 use mir.Facts.{to_z-of_z}
-use Rattle.ecma262.specs.Texts.{time_zone_string}
+use Rattle.ecma262.specs.Texts.{year_sign, time_zone_string}
 use Rattle.integers.proofs.Int.{abs-in}
 use Rattle.integers.proofs.Machine.{fits32}
-use Rattle.text.specs.Inner.{Puts}
+use Rattle.text.specs.Inner.{Appended}
+use Rattle.text.specs.declared.output.Output.{Output}
 
 pub at-fitting : (P : ℤ → Type 0) {x : ℤ} → SFits w32 x → P (to_z w32 (of_z w32 x)) → P x
 at-fitting P f p = subst P (to_z-of_z f) p
@@ -19,8 +20,14 @@ at-fitting P f p = subst P (to_z-of_z f) p
 pub year-fits : (x : ℤ) → nat_abs x ≤ 999999 → SFits w32 x
 year-fits x h = fits32 x (omega (arith, abs-in x h))
 
-pub puts-fitting : (w : ℤ → List ℕ) {x : ℤ} {i : ℕ} {a b : List ℕ} → SFits w32 x → Puts a i (w (to_z w32 (of_z w32 x))) (length (w (to_z w32 (of_z w32 x)))) b → Puts a i (w x) (length (w x)) b
-puts-fitting w {x} {i} {a} {b} f p = at-fitting (λ z. Puts a i (w z) (length (w z)) b) f p
+pub put-fitting : (w : ℤ → List ℕ) {x : ℤ} {a b : Output} → SFits w32 x → Appended a (w (to_z w32 (of_z w32 x))) (length (w (to_z w32 (of_z w32 x)))) b → Appended a (w x) (length (w x)) b
+put-fitting w {a = a} {b} f p = at-fitting (λ z. Appended a (w z) (length (w z)) b) f p
 
-pub zone-put : {x : ℤ} {i : ℕ} {a b : List ℕ} → SFits w32 x → Puts a i (time_zone_string (to_z w32 (of_z w32 x))) 5 b → Puts a i (time_zone_string x) 5 b
-zone-put {x} {i} {a} {b} f p = at-fitting (λ z. Puts a i (time_zone_string z) 5 b) f p
+pub zone-put : {x : ℤ} {a b : Output} → SFits w32 x → Appended a (time_zone_string (to_z w32 (of_z w32 x))) 5 b → Appended a (time_zone_string x) 5 b
+zone-put {a = a} {b} f p = at-fitting (λ z. Appended a (time_zone_string z) 5 b) f p
+
+-- the sign of a year is one byte, or none
+pub sign-short : (y : ℤ) → length (year_sign y) ≤ 1
+unfolding year_sign
+sign-short (pos y) = omega arith
+sign-short (negsuc y) = omega arith

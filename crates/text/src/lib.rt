@@ -1,78 +1,59 @@
 // The texts of dates, printed from whole-number fields into a lent output, in place.
 #![tactic(auto)]
 
-ghost use Rattle.std.specs.Prelude.{◌≡◌, [], ◌∷◌, ◌+◌, ◌≤◌, ◌<◌, length, nat_abs};
+ghost use Rattle.std.specs.Prelude.{◌≡◌, [], ◌∷◌, ◌++◌, ◌+◌, ◌^◌, ◌≤◌, ◌<◌, length, nat_abs};
 ghost use Rattle.ecma262.specs.Digits.{digits};
 ghost use Rattle.ecma262.specs.Texts.{ascii, iso_year, iso_date, iso_time, iso_of, clock_of, day_name, month_name, padded_year, year_sign, signed_year, time_string_of, offset_sign, time_zone_string, utc_of, local_of, invalid_date};
-ghost use Rattle.text.specs.Inner.{Puts, Prints, whole_of, Printable, utc_head, local_head};
+ghost use Rattle.text.specs.Inner.{HasRoom, Appended, Prints, whole_of, utc_head, local_head, year_and_time};
 
-// The number of bytes printed, or that the output is shorter than the text. Then it is as it was.
-#[derive(Clone, Copy)]
-pub enum Printed {
-    Length(usize),
-    NoRoom,
-}
+mod fields;
+mod output;
 
-// Fields of a time, in the Rust's types. Month 0 is January, weekday 0 Sunday.
-#[derive(Clone, Copy)]
-pub struct DateFields {
-    pub year: i32,
-    pub month: u8,
-    pub date: u8,
-    pub hour: u8,
-    pub minute: u8,
-    pub second: u8,
-    pub weekday: u8,
-    pub ms: u16,
-}
+pub use fields::DateFields;
+pub use output::{last_digits, Output};
 
-// ---- bytes and digits, at a place of the output
+// ---- digits
 
-pub fn put(b: u8, output: &mut [u8], at: usize)
-    requires { at < length output.old }
-    ensures { Puts output.old at (b ∷ []) 1 output.new }
+pub fn pad<const N: usize>(t: u32, output: &mut Output)
+    requires { HasRoom output.old N }
+    ensures { Appended output.old (digits N t) N output.new }
 {
-    output[at] = b;
+    output.put_all(&last_digits::<N>(t));
 }
 
-pub fn pad_two(t: u8, output: &mut [u8], at: usize)
-    requires { (t < 100) × (at + 2 ≤ length output.old) }
-    ensures { Puts output.old at (digits 2 t) 2 output.new }
+pub fn pad_two(t: u8, output: &mut Output)
+    requires { (t < 100) × HasRoom output.old 2 }
+    ensures { Appended output.old (digits 2 t) 2 output.new }
 {
-    put(b'0' + t / 10, output, at);
-    put(b'0' + t % 10, output, at + 1);
+    pad::<2>(t as u32, output);
 }
 
-pub fn pad_three(t: u16, output: &mut [u8], at: usize)
-    requires { (t < 1000) × (at + 3 ≤ length output.old) }
-    ensures { Puts output.old at (digits 3 t) 3 output.new }
+pub fn pad_three(t: u16, output: &mut Output)
+    requires { (t < 1000) × HasRoom output.old 3 }
+    ensures { Appended output.old (digits 3 t) 3 output.new }
 {
-    put(b'0' + (t / 100) as u8, output, at);
-    pad_two((t % 100) as u8, output, at + 1);
+    pad::<3>(t as u32, output);
 }
 
-pub fn pad_four(t: u32, output: &mut [u8], at: usize)
-    requires { (t < 10000) × (at + 4 ≤ length output.old) }
-    ensures { Puts output.old at (digits 4 t) 4 output.new }
+pub fn pad_four(t: u32, output: &mut Output)
+    requires { (t < 10000) × HasRoom output.old 4 }
+    ensures { Appended output.old (digits 4 t) 4 output.new }
 {
-    pad_two((t / 100) as u8, output, at);
-    pad_two((t % 100) as u8, output, at + 2);
+    pad::<4>(t, output);
 }
 
-pub fn pad_five(t: u32, output: &mut [u8], at: usize)
-    requires { (t < 100000) × (at + 5 ≤ length output.old) }
-    ensures { Puts output.old at (digits 5 t) 5 output.new }
+pub fn pad_five(t: u32, output: &mut Output)
+    requires { (t < 100000) × HasRoom output.old 5 }
+    ensures { Appended output.old (digits 5 t) 5 output.new }
 {
-    put(b'0' + (t / 10000) as u8, output, at);
-    pad_four(t % 10000, output, at + 1);
+    pad::<5>(t, output);
 }
 
-pub fn pad_six(t: u32, output: &mut [u8], at: usize)
-    requires { (t < 1000000) × (at + 6 ≤ length output.old) }
-    ensures { Puts output.old at (digits 6 t) 6 output.new }
+pub fn pad_six(t: u32, output: &mut Output)
+    requires { (t < 1000000) × HasRoom output.old 6 }
+    ensures { Appended output.old (digits 6 t) 6 output.new }
 {
-    pad_two((t / 10000) as u8, output, at);
-    pad_four(t % 10000, output, at + 2);
+    pad::<6>(t, output);
 }
 
 // ---- the names
@@ -86,6 +67,7 @@ const MONTH_NAMES: [[u8; 3]; 12] = [
     *b"Nov", *b"Dec",
 ];
 
+#[tactic(auto, unfolding(ecma262::specs::Texts::day_name))]
 pub fn day_name(weekday: u8) -> [u8; 3]
     requires { weekday < 7 }
     ensures { result ≡ day_name weekday }
@@ -93,6 +75,7 @@ pub fn day_name(weekday: u8) -> [u8; 3]
     DAY_NAMES[weekday as usize]
 }
 
+#[tactic(auto, unfolding(ecma262::specs::Texts::month_name))]
 pub fn month_name(month: u8) -> [u8; 3]
     requires { month < 12 }
     ensures { result ≡ month_name month }
@@ -100,42 +83,33 @@ pub fn month_name(month: u8) -> [u8; 3]
     MONTH_NAMES[month as usize]
 }
 
-pub fn put_name(name: [u8; 3], output: &mut [u8], at: usize)
-    requires { at + 3 ≤ length output.old }
-    ensures { Puts output.old at name 3 output.new }
+pub fn put_name(name: [u8; 3], output: &mut Output)
+    requires { HasRoom output.old 3 }
+    ensures { Appended output.old name 3 output.new }
 {
-    put(name[0], output, at);
-    put(name[1], output, at + 1);
-    put(name[2], output, at + 2);
+    output.put_all(&name);
 }
 
 // A separator and two digits.
-fn put_two(separator: u8, t: u8, output: &mut [u8], at: usize)
-    requires { (t < 100) × (at + 3 ≤ length output.old) }
-    ensures { Puts output.old at (separator ∷ digits 2 t) 3 output.new }
+fn put_two(separator: u8, t: u8, output: &mut Output)
+    requires { (t < 100) × HasRoom output.old 3 }
+    ensures { Appended output.old (separator ∷ digits 2 t) 3 output.new }
 {
-    put(separator, output, at);
-    pad_two(t, output, at + 1);
+    output.put(separator);
+    pad_two(t, output);
 }
 
 // `HH:mm:ss`.
-fn put_clock(f: DateFields, output: &mut [u8], at: usize)
-    requires { Printable f × (at + 8 ≤ length output.old) }
-    ensures { Puts output.old at (clock_of (whole_of f)) 8 output.new }
+fn put_clock(f: DateFields, output: &mut Output)
+    requires { HasRoom output.old 8 }
+    ensures { Appended output.old (clock_of (whole_of f)) 8 output.new }
 {
-    pad_two(f.hour, output, at);
-    put_two(b':', f.minute, output, at + 2);
-    put_two(b':', f.second, output, at + 5);
+    pad_two(f.hour, output);
+    put_two(b':', f.minute, output);
+    put_two(b':', f.second, output);
 }
 
 // ---- years
-
-// The Rust's `unsigned_abs`, of an i32.
-pub fn unsigned_abs(x: i32) -> u32
-    ensures { result ≡ nat_abs x }
-{
-    if x < 0 { (-1 - x) as u32 + 1 } else { x as u32 }
-}
 
 #[tactic(auto, using(crate::proofs::Tested::below_long, crate::proofs::Tested::four_long, crate::proofs::Tested::above_long))]
 fn iso_year_length(year: i32) -> usize
@@ -144,66 +118,62 @@ fn iso_year_length(year: i32) -> usize
     if year < 0 {
         return 7;
     }
-    if unsigned_abs(year) < 10000 { 4 } else { 7 }
+    if year.unsigned_abs() < 10000 { 4 } else { 7 }
 }
 
-// Four digits, or a sign and six, at the start of the output.
-fn put_iso_year(year: i32, output: &mut [u8])
-    requires { (nat_abs year ≤ 999999) × (7 ≤ length output.old) }
-    ensures { Puts output.old 0 (iso_year year) (length (iso_year year)) output.new }
+// Four digits, or a sign and six.
+fn put_iso_year(year: i32, output: &mut Output)
+    requires { (nat_abs year ≤ 999999) × HasRoom output.old 7 }
+    ensures { Appended output.old (iso_year year) (length (iso_year year)) output.new }
 {
-    let y = unsigned_abs(year);
+    let y = year.unsigned_abs();
     if year < 0 {
-        put(b'-', output, 0);
-        pad_six(y, output, 1);
+        output.put(b'-');
+        pad_six(y, output);
+    } else if y < 10000 {
+        pad_four(y, output);
     } else {
-        if y < 10000 {
-            pad_four(y, output, 0);
-        } else {
-            put(b'+', output, 0);
-            pad_six(y, output, 1);
-        }
+        output.put(b'+');
+        pad_six(y, output);
     }
 }
 
 // ---- the ISO text
 
 // `-MM-DD`, the month from 01.
-fn put_iso_date(f: DateFields, output: &mut [u8], at: usize)
-    requires { Printable f × (at + 6 ≤ length output.old) }
-    ensures { Puts output.old at (iso_date (whole_of f)) 6 output.new }
+fn put_iso_date(f: DateFields, output: &mut Output)
+    requires { HasRoom output.old 6 }
+    ensures { Appended output.old (iso_date (whole_of f)) 6 output.new }
 {
-    let month = f.month + 1;
-    put_two(b'-', month, output, at);
-    put_two(b'-', f.date, output, at + 3);
+    put_two(b'-', f.month + 1, output);
+    put_two(b'-', f.date, output);
 }
 
 // `THH:mm:ss.sssZ`.
-fn put_iso_time(f: DateFields, output: &mut [u8], at: usize)
-    requires { Printable f × (at + 14 ≤ length output.old) }
-    ensures { Puts output.old at (iso_time (whole_of f)) 14 output.new }
+fn put_iso_time(f: DateFields, output: &mut Output)
+    requires { HasRoom output.old 14 }
+    ensures { Appended output.old (iso_time (whole_of f)) 14 output.new }
 {
-    put(b'T', output, at);
-    put_clock(f, output, at + 1);
-    put(b'.', output, at + 9);
-    pad_three(f.ms, output, at + 10);
-    put(b'Z', output, at + 13);
+    output.put(b'T');
+    put_clock(f, output);
+    output.put(b'.');
+    pad_three(f.ms, output);
+    output.put(b'Z');
 }
 
 // The text of `to_iso_string`.
-pub fn iso_string(f: DateFields, output: &mut [u8]) -> Printed
-    requires { Printable f }
+pub fn iso_string(f: DateFields, output: &mut [u8]) -> Option<usize>
     ensures { Prints (iso_of (whole_of f)) output.old output.new result }
 {
-    let n = iso_year_length(f.year);
-    let length = n + 20;
+    let length = iso_year_length(f.year) + 20;
     if output.len() < length {
-        return Printed::NoRoom;
+        return None;
     }
-    put_iso_year(f.year, output);
-    put_iso_date(f, output, n);
-    put_iso_time(f, output, n + 6);
-    Printed::Length(length)
+    let mut text = Output { bytes: output, at: 0 };
+    put_iso_year(f.year, &mut text);
+    put_iso_date(f, &mut text);
+    put_iso_time(f, &mut text);
+    Some(length)
 }
 
 // ---- the year of the UTC and the local text
@@ -218,65 +188,53 @@ fn padded_length(y: u32) -> usize
 }
 
 // At least four digits.
-fn put_padded_year(y: u32, output: &mut [u8], at: usize)
-    requires { (y < 1000000) × (at + 6 ≤ length output.old) }
-    ensures { Puts output.old at (padded_year y) (length (padded_year y)) output.new }
+fn put_padded_year(y: u32, output: &mut Output)
+    requires { (y < 1000000) × HasRoom output.old 6 }
+    ensures { Appended output.old (padded_year y) (length (padded_year y)) output.new }
 {
     if y < 10000 {
-        pad_four(y, output, at);
+        pad_four(y, output);
+    } else if y < 100000 {
+        pad_five(y, output);
     } else {
-        if y < 100000 {
-            pad_five(y, output, at);
-        } else {
-            pad_six(y, output, at);
-        }
+        pad_six(y, output);
     }
 }
 
 fn signed_length(year: i32) -> usize
     ensures { (length (signed_year year) ≡ result) × (4 ≤ result) × (result ≤ 7) }
 {
-    let n = padded_length(unsigned_abs(year));
+    let n = padded_length(year.unsigned_abs());
     if year < 0 { n + 1 } else { n }
 }
 
-// `-` before a negative year, nothing before another. The place behind it.
-fn put_year_sign(year: i32, output: &mut [u8], at: usize) -> usize
-    requires { at < length output.old }
-    ensures { (result ≡ at + length (year_sign year)) × (result ≤ at + 1) × Puts output.old at (year_sign year) (length (year_sign year)) output.new }
+// `-` before a negative year, nothing before another.
+fn put_year_sign(year: i32, output: &mut Output)
+    requires { HasRoom output.old 1 }
+    ensures { Appended output.old (year_sign year) (length (year_sign year)) output.new }
 {
     if year < 0 {
-        put(b'-', output, at);
-        return at + 1;
+        output.put(b'-');
     }
-    at
 }
 
-fn put_signed_year(year: i32, output: &mut [u8], at: usize)
-    requires { (nat_abs year ≤ 999999) × (at + 7 ≤ length output.old) }
-    ensures { Puts output.old at (signed_year year) (length (signed_year year)) output.new }
+fn put_signed_year(year: i32, output: &mut Output)
+    requires { (nat_abs year ≤ 999999) × HasRoom output.old 7 }
+    ensures { Appended output.old (signed_year year) (length (signed_year year)) output.new }
 {
-    let place = put_year_sign(year, output, at);
-    put_padded_year(unsigned_abs(year), output, place);
+    put_year_sign(year, output);
+    put_padded_year(year.unsigned_abs(), output);
 }
 
 // ---- DateString, TimeString, TimeZoneString
 
-fn put_gmt(output: &mut [u8], at: usize)
-    requires { at + 4 ≤ length output.old }
-    ensures { Puts output.old at (ascii " GMT") 4 output.new }
-{
-    put(b' ', output, at);
-    put_name(*b"GMT", output, at + 1);
-}
-
 // `HH:mm:ss GMT`.
-pub fn time_string(f: DateFields, output: &mut [u8], at: usize)
-    requires { Printable f × (at + 12 ≤ length output.old) }
-    ensures { Puts output.old at (time_string_of (whole_of f)) 12 output.new }
+pub fn time_string(f: DateFields, output: &mut Output)
+    requires { HasRoom output.old 12 }
+    ensures { Appended output.old (time_string_of (whole_of f)) 12 output.new }
 {
-    put_clock(f, output, at);
-    put_gmt(output, at + 8);
+    put_clock(f, output);
+    output.put_all(b" GMT");
 }
 
 #[tactic(auto, using(crate::proofs::Tested::minus, crate::proofs::Tested::plus))]
@@ -287,98 +245,99 @@ fn offset_sign(offset: i32) -> u8
 }
 
 // The suffix, from an offset in seconds. Its seconds are cut off.
-pub fn time_zone_string(offset: i32, output: &mut [u8], at: usize)
-    requires { (nat_abs offset ≤ 86399) × (at + 5 ≤ length output.old) }
-    ensures { Puts output.old at (time_zone_string offset) 5 output.new }
+pub fn time_zone_string(offset: i32, output: &mut Output)
+    requires { (nat_abs offset ≤ 86399) × HasRoom output.old 5 }
+    ensures { Appended output.old (time_zone_string offset) 5 output.new }
 {
-    let seconds = unsigned_abs(offset);
-    put(offset_sign(offset), output, at);
-    pad_two((seconds / 3600) as u8, output, at + 1);
-    pad_two((seconds / 60 % 60) as u8, output, at + 3);
+    let seconds = offset.unsigned_abs();
+    output.put(offset_sign(offset));
+    pad_two((seconds / 3600) as u8, output);
+    pad_two((seconds / 60 % 60) as u8, output);
 }
 
 // ---- the UTC and the local text
 
 // `Www, DD Mmm `.
-fn put_utc_head(f: DateFields, output: &mut [u8])
-    requires { Printable f × (12 ≤ length output.old) }
-    ensures { Puts output.old 0 (utc_head f.weekday (whole_of f)) 12 output.new }
+fn put_utc_head(f: DateFields, output: &mut Output)
+    requires { HasRoom output.old 12 }
+    ensures { Appended output.old (utc_head f.weekday (whole_of f)) 12 output.new }
 {
-    put_name(day_name(f.weekday), output, 0);
-    put(b',', output, 3);
-    put_two(b' ', f.date, output, 4);
-    put(b' ', output, 7);
-    put_name(month_name(f.month), output, 8);
-    put(b' ', output, 11);
-}
-
-// The text of `to_utc_string`.
-pub fn utc_string(f: DateFields, output: &mut [u8]) -> Printed
-    requires { Printable f }
-    ensures { Prints (utc_of f.weekday (whole_of f)) output.old output.new result }
-{
-    let n = signed_length(f.year);
-    let length = n + 25;
-    if output.len() < length {
-        return Printed::NoRoom;
-    }
-    put_utc_head(f, output);
-    put_signed_year(f.year, output, 12);
-    put(b' ', output, n + 12);
-    time_string(f, output, n + 13);
-    Printed::Length(length)
+    put_name(day_name(f.weekday), output);
+    output.put(b',');
+    put_two(b' ', f.date, output);
+    output.put(b' ');
+    put_name(month_name(f.month), output);
+    output.put(b' ');
 }
 
 // `Www Mmm DD `.
-fn put_local_head(f: DateFields, output: &mut [u8])
-    requires { Printable f × (11 ≤ length output.old) }
-    ensures { Puts output.old 0 (local_head f.weekday (whole_of f)) 11 output.new }
+fn put_local_head(f: DateFields, output: &mut Output)
+    requires { HasRoom output.old 11 }
+    ensures { Appended output.old (local_head f.weekday (whole_of f)) 11 output.new }
 {
-    put_name(day_name(f.weekday), output, 0);
-    put(b' ', output, 3);
-    put_name(month_name(f.month), output, 4);
-    put_two(b' ', f.date, output, 7);
-    put(b' ', output, 10);
+    put_name(day_name(f.weekday), output);
+    output.put(b' ');
+    put_name(month_name(f.month), output);
+    put_two(b' ', f.date, output);
+    output.put(b' ');
+}
+
+// What both texts have behind their head: the year, a space and the time.
+fn put_year_and_time(f: DateFields, output: &mut Output)
+    requires { HasRoom output.old (length (signed_year f.year) + 13) }
+    ensures { Appended output.old (year_and_time (whole_of f)) (length (signed_year f.year) + 13) output.new }
+{
+    put_signed_year(f.year, output);
+    output.put(b' ');
+    time_string(f, output);
+}
+
+// The text of `to_utc_string`.
+pub fn utc_string(f: DateFields, output: &mut [u8]) -> Option<usize>
+    ensures { Prints (utc_of f.weekday (whole_of f)) output.old output.new result }
+{
+    let length = signed_length(f.year) + 25;
+    if output.len() < length {
+        return None;
+    }
+    let mut text = Output { bytes: output, at: 0 };
+    put_utc_head(f, &mut text);
+    put_year_and_time(f, &mut text);
+    Some(length)
 }
 
 // The text of `to_date_string_t`: the fields are those of the local time.
-pub fn local_string(f: DateFields, offset: i32, output: &mut [u8]) -> Printed
-    requires { Printable f × (nat_abs offset ≤ 86399) }
+pub fn local_string(f: DateFields, offset: i32, output: &mut [u8]) -> Option<usize>
+    requires { nat_abs offset ≤ 86399 }
     ensures { Prints (local_of f.weekday (whole_of f) offset) output.old output.new result }
 {
-    let n = signed_length(f.year);
-    let length = n + 29;
+    let length = signed_length(f.year) + 29;
     if output.len() < length {
-        return Printed::NoRoom;
+        return None;
     }
-    put_local_head(f, output);
-    put_signed_year(f.year, output, 11);
-    put(b' ', output, n + 11);
-    time_string(f, output, n + 12);
-    time_zone_string(offset, output, n + 24);
-    Printed::Length(length)
+    let mut text = Output { bytes: output, at: 0 };
+    put_local_head(f, &mut text);
+    put_year_and_time(f, &mut text);
+    time_zone_string(offset, &mut text);
+    Some(length)
 }
 
 // ---- a text as it stands
 
 // The one way of putting a text that is at hand into a lent output.
-pub fn put_text(text: &[u8], output: &mut [u8]) -> Printed
+pub fn put_text(text: &[u8], output: &mut [u8]) -> Option<usize>
     ensures { Prints text.now output.old output.new result }
 {
     let n = text.len();
     if output.len() < n {
-        return Printed::NoRoom;
+        return None;
     }
-    let mut i = 0;
-    while i < n {
-        output[i] = text[i];
-        i += 1;
-    }
-    Printed::Length(n)
+    output[..n].copy_from_slice(text);
+    Some(n)
 }
 
 // `Invalid Date`.
-pub fn invalid_date(output: &mut [u8]) -> Printed
+pub fn invalid_date(output: &mut [u8]) -> Option<usize>
     ensures { Prints invalid_date output.old output.new result }
 {
     put_text(b"Invalid Date", output)

@@ -10,16 +10,7 @@ use Rattle.text.proofs.signed_length.Goals as goal
 use Rattle.text.proofs.signed_length.Goals.{After-padded_length-n}
 
 padded-of : (b : After-padded_length-n) → length (padded_year (nat_abs b.args.year)) ≡ b.padded_length-n.result
-padded-of b = ap (λ n. length (padded_year n)) (sym (abs-of b.ranges.year b.unsigned_abs.ensures)) ∙ b.padded_length-n.ensures.0
-
-pub unsigned_abs-requires : goal.unsigned_abs-requires
-unsigned_abs-requires c = omega arith
-
-pub padded_length-n-requires : goal.padded_length-n-requires
-padded_length-n-requires c = omega arith
-
-pub overflow_add-result : goal.overflow_add-result
-overflow_add-result c = omega arith
+padded-of b = ap (λ n. length (padded_year n)) (sym (abs-of b.ranges.year b.unsigned_abs.ensures.value)) ∙ b.padded_length-n.ensures.0
 
 pub returns-then-year-lt0 : goal.returns-then-year-lt0
 returns-then-year-lt0 c =

@@ -1,50 +1,30 @@
--- `text::utc_string` meets its contract: head, year, space and time stand one behind the other. Assumes nothing.
+-- `text::utc_string` meets its contract: its parts stand one behind the other. Assumes nothing.
 use mathlib.Core.List.{append_assoc}
 use mathlib.Core.Path.{◌≡◌, refl, ap, ◌∙◌}
 use Prim.Native.Nat.{◌+◌}
 use native.Mathlib.Omega.{arith}
+use borrow.Author.Rules.{rules}
 use lib.ListN.{length}
 use Rattle.ecma262.proofs.Texts.{length-utc}
 use Rattle.ecma262.specs.Texts.{signed_year}
 use Rattle.text.specs.Inner.{whole_of}
-use Rattle.text.proofs.Runs.{puts-as, puts_then, prints-none, prints-whole}
-use Rattle.text.proofs.Sign.{at-fitting, year-fits, puts-fitting}
+use Rattle.text.proofs.Runs.{appended_as, appended_then, prints_none, prints_whole}
+use Rattle.text.proofs.Sign.{at-fitting, year-fits}
 use Rattle.text.proofs.utc_string.Goals as goal
-use Rattle.text.proofs.utc_string.Goals.{After-signed_length-n}
+use Rattle.text.proofs.utc_string.Goals.{After-signed_length-length}
 
-year-length : (b : After-signed_length-n) → length (signed_year b.args.f.year) ≡ b.signed_length-n.result
-year-length b = at-fitting (λ y. length (signed_year y) ≡ b.signed_length-n.result) (year-fits _ b.requires.year-ok) b.signed_length-n.ensures.0
-
-pub signed_length-n-requires : goal.signed_length-n-requires
-signed_length-n-requires c = omega arith
-
-pub overflow_add-length : goal.overflow_add-length
-overflow_add-length c = omega arith
+year-length : (b : After-signed_length-length) → length (signed_year b.args.f.year) ≡ b.signed_length-length.result
+year-length b = at-fitting (λ y. length (signed_year y) ≡ b.signed_length-length.result) (year-fits b.args.f.year b.args.f.printable.year-ok) b.signed_length-length.ensures.0
 
 pub returns-then-output-length : goal.returns-then-output-length
 returns-then-output-length c =
-    prints-none (length-utc (whole_of c.args.f) c.requires.weekday-ok c.requires.month-ok ∙ ap (λ n. n + 25) (year-length (goal.at.returns-then-output-length c).After-signed_length-n)) c.if-output-length.true refl
+    prints_none (length-utc (whole_of c.args.f) c.args.f.printable.weekday-ok c.args.f.printable.month-ok ∙ ap (λ n. n + 25) (year-length (goal.at.returns-then-output-length c).After-signed_length-length)) c.if-output-length.true refl
 
-pub put_utc_head-requires : goal.put_utc_head-requires
-put_utc_head-requires c = omega arith
-
-pub overflow_add-n : goal.overflow_add-n
-overflow_add-n c = omega arith
-
-pub put-requires : goal.put-requires
-put-requires c = omega arith
-
-pub overflow_add-n-2 : goal.overflow_add-n-2
-overflow_add-n-2 c = omega arith
-
-pub time_string-requires : goal.time_string-requires
-time_string-requires c = omega arith
+pub put_year_and_time-requires : goal.put_year_and_time-requires
+put_year_and_time-requires c = omega (arith, year-length (goal.at.put_year_and_time-requires c).After-signed_length-length)
 
 pub returns : goal.returns
 returns c =
-    let n = year-length (goal.at.returns c).After-signed_length-n in
-    prints-whole
-    (puts-as
-    (puts_then
-    (puts_then (puts_then c.put_utc_head.ensures (puts-fitting signed_year (year-fits c.args.f.year c.requires.year-ok) c.put_signed_year.ensures) refl) c.put.ensures (omega (arith, n)))
-    c.time_string.ensures (omega (arith, n))) (simp append_assoc)) (omega (arith, n)) (omega arith)
+    let n = year-length (goal.at.returns c).After-signed_length-length in
+    prints_whole (appended_as (appended_then c.put_utc_head.ensures c.put_year_and_time.ensures) (simp append_assoc))
+    refl refl (search rules) (omega (arith, n)) (omega arith)

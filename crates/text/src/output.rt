@@ -1,0 +1,44 @@
+ghost use Rattle.std.specs.Prelude.{◌≡◌, [], ◌∷◌, length};
+ghost use Rattle.ecma262.specs.Digits.{digits};
+
+// A lent output, and the place in it where the next byte is put.
+#[derive(Drop)]
+pub struct Output<'a> {
+    pub bytes: &'a mut [u8],
+    pub at: usize,
+}
+
+impl Output<'_> {
+    ghost use Rattle.text.specs.Inner.{HasRoom, Appended};
+
+    pub fn put(&mut self, b: u8)
+        requires { HasRoom self.old 1 }
+        ensures { Appended self.old (b ∷ []) 1 self.new }
+    {
+        self.bytes[self.at] = b;
+        self.at += 1;
+    }
+
+    pub fn put_all(&mut self, text: &[u8])
+        requires { HasRoom self.old (length text.now) }
+        ensures { Appended self.old text.now (length text.now) self.new }
+    {
+        let end = self.at + text.len();
+        self.bytes[self.at..end].copy_from_slice(text);
+        self.at = end;
+    }
+}
+
+// The last N decimal digits, the highest first.
+#[tactic(auto, using(crate::proofs::Places::no_place, crate::proofs::Places::all_places))]
+pub fn last_digits<const N: usize>(t: u32) -> [u8; N]
+    ensures { result ≡ digits N t }
+{
+    let mut bytes = [b'0'; N];
+    let mut rest = t;
+    for i in (0..N).rev() {
+        bytes[i] = b'0' + (rest % 10) as u8;
+        rest /= 10;
+    }
+    bytes
+}
