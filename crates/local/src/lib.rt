@@ -32,6 +32,7 @@ fn asked_second(t: f64) -> i64
 }
 
 // The offset at t, read as an instant.
+#[tactic(auto, unfolding(crate::specs::Local::offset_seconds_f))]
 pub fn local_timezone_offset_seconds(t: f64, zone: ZoneList) -> i32
     ensures { result ≡ offset_seconds_f (records zone.entry.bytes.now) t }
 {
@@ -46,6 +47,7 @@ fn shift(t: f64, zone: ZoneList) -> f64
 }
 
 // LocalTime(t)
+#[tactic(auto, unfolding(crate::specs::Local::local_time_f))]
 pub fn local_time(t: f64, zone: ZoneList) -> f64
     ensures { result ≡ local_time_f (records zone.entry.bytes.now) t }
 {
