@@ -32,10 +32,11 @@ impl Answers {
 
 impl fmt::Display for Answers {
     fn fmt<W: fmt::Write>(&self, f: &mut fmt::Formatter<W>) -> fmt::Result {
-        let [first, rest @ ..] = &self.0;
-        write!(f, "{first:016x}")?;
-        for answer in rest {
-            write!(f, " {answer:016x}")?;
+        for (column, answer) in self.0.iter().enumerate() {
+            if column > 0 {
+                write!(f, " ")?;
+            }
+            write!(f, "{answer:016x}")?;
         }
         Ok(())
     }

@@ -190,7 +190,7 @@ impl Case {
     }
 
     /// Calls what the tag names.
-    pub fn reply(&mut self) -> Option<Reply<'_>> {
+    pub(crate) fn reply(&mut self) -> Option<Reply<'_>> {
         if let Some(answer) = self.answer() {
             return Some(Reply {
                 answer,

@@ -4,18 +4,18 @@ use std::array;
 
 /// A field's bytes, and the number that its first sixteen digits write.
 #[derive(Drop)]
-pub struct Field {
-    pub bytes: Vec<u8>,
-    pub word: u64,
+pub(crate) struct Field {
+    pub(crate) bytes: Vec<u8>,
+    pub(crate) word: u64,
 }
 
 #[derive(Drop)]
-pub struct Case {
-    pub tag: [u8; 4],
-    pub first: Field,
-    pub second: Field,
-    pub third: Field,
-    pub fourth: Field,
+pub(crate) struct Case {
+    pub(crate) tag: [u8; 4],
+    pub(crate) first: Field,
+    pub(crate) second: Field,
+    pub(crate) third: Field,
+    pub(crate) fourth: Field,
 }
 
 fn digit(character: u8) -> Option<u8> {
@@ -45,7 +45,7 @@ impl Field {
 
 impl Case {
     /// A tag that is too short ends in zero bytes; a field that is missing is empty.
-    pub fn parse(alloc: Global, line: &[u8]) -> Result<Case, AllocError> {
+    pub(crate) fn parse(alloc: Global, line: &[u8]) -> Result<Case, AllocError> {
         let mut fields = line.split(|byte| *byte == b' ').skip(1);
         Ok(Case {
             tag: array::from_fn(|at| line.get(at).copied().unwrap_or(0)),

@@ -14,11 +14,11 @@ mod reply;
 /// A line longer than this many bytes counts as several.
 const LONGEST_LINE: u64 = 1024;
 
-/// The next line with its newline, empty at the end of the input.
-fn next_line(alloc: Global, reader: &mut (impl BufRead + Drop)) -> io::Result<Vec<u8>> {
+/// The next line, with its newline where it has one.
+fn next_line(alloc: Global, reader: &mut (impl BufRead + Drop)) -> io::Result<Option<Vec<u8>>> {
     let mut line = Vec::new(alloc);
-    reader.take(LONGEST_LINE).read_until(b'\n', &mut line)?;
-    Ok(line)
+    let length = reader.take(LONGEST_LINE).read_until(b'\n', &mut line)?;
+    Ok((length > 0).then_some(line))
 }
 
 /// Answers a case. A tag that is not known shows as a difference.
@@ -38,10 +38,9 @@ fn main(rt: HostRuntime) -> io::Result<()> {
     let mut reader = BufReader::new(alloc, rt.reader())?;
     let mut writer = BufWriter::new(alloc, io::writer(&rt))?;
     for _ in 0..u64::MAX {
-        let line = next_line(alloc, &mut reader)?;
-        if line.is_empty() {
+        let Some(line) = next_line(alloc, &mut reader)? else {
             break;
-        }
+        };
         respond(alloc, &line, &mut writer)?;
     }
     writer.flush()
