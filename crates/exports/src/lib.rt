@@ -24,17 +24,13 @@ use zone::ZoneList;
 fn word(z: i64) -> u64
     ensures { result ≡ word z }
 {
-    if z < 0 {
-        0xffff_ffff_ffff_ffff - ((-1 - z) as u64)
-    } else {
-        z as u64
-    }
+    z.cast_unsigned()
 }
 
 fn word32(z: i32) -> u64
     ensures { result ≡ word z }
 {
-    word(z as i64)
+    word(i64::from(z))
 }
 
 // ---- f64's own methods and saturating casts

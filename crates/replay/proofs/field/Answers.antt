@@ -1,7 +1,0 @@
--- `replay::field` meets its contract. Assumes nothing.
-use native.Mathlib.Omega.{arith}
-use Rattle.io.proofs.Counting.{prefix_len_of_le}
-use Rattle.replay.proofs.field.Goals as goal
-
-pub returns : goal.returns
-returns c = prefix_len_of_le _ _ (omega arith)
