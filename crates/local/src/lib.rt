@@ -4,8 +4,10 @@
 #![tactic(auto)]
 
 ghost use Rattle.std.specs.Prelude.{◌≡◌, ◌≤◌, nat_abs};
-ghost use Rattle.zone.specs.Zone.{records, Accepted};
-ghost use Rattle.local.specs.Local.{asked_second, asked_second_f, offset_seconds_f, local_time_f, utc_f};
+ghost use Rattle.zone.specs.Zone.{records};
+ghost use Rattle.local.specs.Local.{asked_second, asked_second_f, offset_seconds_f, shift_f, local_time_f, utc_f};
+
+use zone::ZoneList;
 
 const MS_PER_SECOND: f64 = 1_000.0;
 
@@ -30,29 +32,35 @@ fn asked_second(t: f64) -> i64
 }
 
 // The offset at t, read as an instant.
-pub fn local_timezone_offset_seconds(t: f64, zone: &[u8]) -> i32
-    requires { Accepted zone.now }
-    ensures { result ≡ offset_seconds_f (records zone.now) t }
+#[tactic(auto, unfolding(crate::specs::Local::offset_seconds_f))]
+pub fn local_timezone_offset_seconds(t: f64, zone: ZoneList) -> i32
+    ensures { result ≡ offset_seconds_f (records zone.entry.bytes.now) t }
 {
-    zone::lookup(zone, asked_second(t))
+    zone.lookup(asked_second(t))
+}
+
+// That offset in milliseconds.
+fn shift(t: f64, zone: ZoneList) -> f64
+    ensures { result ≡ shift_f (records zone.entry.bytes.now) t }
+{
+    local_timezone_offset_seconds(t, zone) as f64 * MS_PER_SECOND
 }
 
 // LocalTime(t)
-pub fn local_time(t: f64, zone: &[u8]) -> f64
-    requires { Accepted zone.now }
-    ensures { result ≡ local_time_f (records zone.now) t }
+#[tactic(auto, unfolding(crate::specs::Local::local_time_f))]
+pub fn local_time(t: f64, zone: ZoneList) -> f64
+    ensures { result ≡ local_time_f (records zone.entry.bytes.now) t }
 {
-    t + local_timezone_offset_seconds(t, zone) as f64 * MS_PER_SECOND
+    t + shift(t, zone)
 }
 
 // UTC(t)
-pub fn utc_t(t: f64, zone: &[u8]) -> f64
-    requires { Accepted zone.now }
-    ensures { result ≡ utc_f (records zone.now) t }
+pub fn utc_t(t: f64, zone: ZoneList) -> f64
+    ensures { result ≡ utc_f (records zone.entry.bytes.now) t }
 {
     // 1. If t is not finite, return NaN.
-    if !float::is_finite(t) {
-        return 0.0 / 0.0;
+    if !t.is_finite() {
+        return f64::NAN;
     }
-    t - local_timezone_offset_seconds(t, zone) as f64 * MS_PER_SECOND
+    t - shift(t, zone)
 }

@@ -7,7 +7,7 @@
 ghost use Rattle.std.specs.Prelude.{◌≡◌, ◌+◌, ◌-◌, ◌*◌, ◌≤◌, ◌<◌, pos, nat_abs};
 ghost use Rattle.ecma262.specs.Date.{make_day, make_date};
 ghost use Rattle.ecma262.specs.Format.{year_number, date_fields, time_fields, YearBounds, DateBounds, TimeBounds, ZoneBounds, Bounds};
-ghost use Rattle.zone.specs.Zone.{Accepted, records};
+ghost use Rattle.zone.specs.Zone.{records};
 ghost use Rattle.local.specs.Local.{utc_time};
 ghost use Rattle.parser.specs.Inner.{as_year, as_date, as_time, as_zone, as_form};
 ghost use Rattle.reader.specs.Denotes.{less_written, less_offset, instant_of};
@@ -15,6 +15,7 @@ ghost use Rattle.reader.specs.Outcome.{refusal_of, answer_at, read_outcome};
 
 use answer::{Refusal, Reply};
 use parser::{Date, Fault, Form, Parsed, Time, Year, Zone};
+use zone::ZoneList;
 
 // The year as written, with its sign.
 fn year_number(y: Year) -> i64
@@ -111,17 +112,17 @@ fn less_offset(t: i64, negative: bool, hour: u32, minute: u32) -> i64
 }
 
 // The time t of the fields, less the offset that the list gives at it, read as an instant: `utc_t`.
-fn less_local(zone: &[u8], t: i64) -> i64
-    requires { Accepted zone.now × (nat_abs t ≤ 37_000_000_000_000_000) }
-    ensures { result ≡ utc_time (records zone.now) t }
+fn less_local(zone: ZoneList, t: i64) -> i64
+    requires { nat_abs t ≤ 37_000_000_000_000_000 }
+    ensures { result ≡ utc_time (records zone.entry.bytes.now) t }
 {
-    t - zone::lookup(zone, local::second_of(t)) as i64 * 1_000
+    t - zone.lookup(local::second_of(t)) as i64 * 1_000
 }
 
 // The time t of the fields, less the offset of a zone as it is written.
-fn less_zone(zone: &[u8], t: i64, z: Zone) -> i64
-    requires { Accepted zone.now × (nat_abs t ≤ 37_000_000_000_000_000) × ZoneBounds (as_zone z) }
-    ensures { result ≡ less_offset (records zone.now) (as_zone z) t }
+fn less_zone(zone: ZoneList, t: i64, z: Zone) -> i64
+    requires { (nat_abs t ≤ 37_000_000_000_000_000) × ZoneBounds (as_zone z) }
+    ensures { result ≡ less_offset (records zone.entry.bytes.now) (as_zone z) t }
 {
     match z {
         Zone::Absent => less_local(zone, t),
@@ -136,9 +137,9 @@ fn less_zone(zone: &[u8], t: i64, z: Zone) -> i64
 }
 
 // The instant of a form.
-fn instant_of(zone: &[u8], form: Form) -> i64
-    requires { Accepted zone.now × Bounds (as_form form) }
-    ensures { result ≡ instant_of (records zone.now) (as_form form) }
+fn instant_of(zone: ZoneList, form: Form) -> i64
+    requires { Bounds (as_form form) }
+    ensures { result ≡ instant_of (records zone.entry.bytes.now) (as_form form) }
 {
     match form {
         Form::Date(y, d) => fields_time(y, d, 0),
@@ -178,11 +179,11 @@ fn refusal_of(f: Fault) -> Refusal
 pub fn read(zone: &[u8], text: &[u8]) -> Reply
     ensures { result ≡ read_outcome zone.now text.now }
 {
-    if !zone::accept(zone) {
+    let Some(list) = ZoneList::accept(zone) else {
         return Reply::Refused(Refusal::ZoneList);
-    }
+    };
     match text_reader::parse_text(text) {
         Parsed::Refused(f) => Reply::Refused(refusal_of(f)),
-        Parsed::Read(form) => answer_at(instant_of(zone, form)),
+        Parsed::Read(form) => answer_at(instant_of(list, form)),
     }
 }

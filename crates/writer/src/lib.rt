@@ -10,12 +10,13 @@ ghost use Rattle.answer.specs.Answer.{nan_value};
 ghost use Rattle.writer.specs.Inner.{IsShown, FieldsAt, replied};
 ghost use Rattle.writer.specs.Outcome.{written, Leaves};
 ghost use Rattle.timevalue.specs.TimeValue.{IsTime};
-ghost use Rattle.zone.specs.Zone.{records, Accepted};
+ghost use Rattle.zone.specs.Zone.{records};
 ghost use Rattle.writer.specs.Writer.{iso_outcome, utc_outcome, to_date_string, local_outcome};
 
 use answer::{Refusal, Reply};
 use text::{DateFields, Printed};
 use timevalue::TimeValue;
+use zone::ZoneList;
 
 // The fields of a whole time, by the calendar's functions, for the printing functions.
 fn date_fields(t: f64) -> DateFields
@@ -67,9 +68,9 @@ pub fn write_utc(t: f64, output: &mut [u8]) -> Reply
 }
 
 // ToDateString(tv) of a time of the range, under an accepted list.
-pub fn to_date_string_t(tv: f64, zone: &[u8], output: &mut [u8]) -> Reply
-    requires { IsTime tv × Accepted zone.now }
-    ensures { Leaves (written (to_bits binary64 tv) (to_date_string (records zone.now) (trunc_z tv)) output.old) result output.new }
+pub fn to_date_string_t(tv: f64, zone: ZoneList, output: &mut [u8]) -> Reply
+    requires { IsTime tv }
+    ensures { Leaves (written (to_bits binary64 tv) (to_date_string (records zone.entry.bytes.now) (trunc_z tv)) output.old) result output.new }
 {
     // 1. If tv is NaN, return "Invalid Date": `to_string` has tested that.
     // 2. Let t be LocalTime(tv).
@@ -114,12 +115,12 @@ pub fn to_utc_string(time: u64, output: &mut [u8]) -> Reply
 pub fn to_string(zone: &[u8], time: u64, output: &mut [u8]) -> Reply
     ensures { Leaves (local_outcome zone.now time output.old) result output.new }
 {
-    if !zone::accept(zone) {
+    let Some(list) = ZoneList::accept(zone) else {
         return Reply::Refused(Refusal::ZoneList);
-    }
+    };
     match timevalue::time_value(time) {
         TimeValue::Refused => Reply::Refused(Refusal::TimeValue),
         TimeValue::Nan => write_invalid(output),
-        TimeValue::Time(t) => to_date_string_t(t, zone, output),
+        TimeValue::Time(t) => to_date_string_t(t, list, output),
     }
 }

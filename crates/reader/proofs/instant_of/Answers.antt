@@ -18,7 +18,7 @@ use Rattle.reader.proofs.instant_of.Goals.{After-fields_time-in-Timed, In-Timed}
 
 bounds : (c : In-Timed) → YearBounds (as_year c.in-Timed.y) × DateBounds (as_date c.in-Timed.d)
     × TimeBounds (as_time c.in-Timed.t) × ZoneBounds (as_zone c.in-Timed.z)
-bounds c = rw c.in-Timed.is at c.requires.1
+bounds c = rw c.in-Timed.is at c.requires
 
 handed : (c : After-fields_time-in-Timed) → to_z w64 (of_z w64 c.fields_time-in-Timed.result) ≡ c.fields_time-in-Timed.result
 handed c = kept {w = w64} (record { sfits = c.fields_time-in-Timed.type_inv })
@@ -33,7 +33,7 @@ time c =
 
 pub fields_time-requires : goal.fields_time-requires
 fields_time-requires c =
-    let b : YearBounds (as_year c.in-Date.y) × DateBounds (as_date c.in-Date.d) = rw c.in-Date.is at c.requires.1 in
+    let b : YearBounds (as_year c.in-Date.y) × DateBounds (as_date c.in-Date.d) = rw c.in-Date.is at c.requires in
     (b.0, b.1, lit< tt)
 
 pub clock_count-time-requires : goal.clock_count-time-requires
@@ -44,7 +44,6 @@ fields_time-requires-in-Timed c = let b = bounds (goal.at.fields_time-requires-i
 
 pub less_zone-requires : goal.less_zone-requires
 less_zone-requires c = (
-  c.requires.0,
   subst (λ (z : ℤ). nat_abs z ≤ 37000000000000000) (sym (handed (goal.at.less_zone-requires c).After-fields_time-in-Timed)) c.fields_time-in-Timed.ensures.1,
   (bounds (goal.at.less_zone-requires c).In-Timed).3,
 )
@@ -56,7 +55,7 @@ returns-in-Date c = rw c.in-Date.is (kept {w = w64} (record { sfits = c.fields_t
 pub returns-in-Timed : goal.returns-in-Timed
 unfolding instant_of
 returns-in-Timed c =
-    let zone = c.args.zone.now in
+    let zone = c.args.zone.bytes.now in
     let z = c.in-Timed.z in
     rw c.in-Timed.is
     (kept {w = w64} (record { sfits = c.less_zone.type_inv }) ∙ c.less_zone.ensures ∙ ap (less_offset (records zone) (as_zone z)) (handed (goal.at.returns-in-Timed c).After-fields_time-in-Timed ∙ time (goal.at.returns-in-Timed c).After-fields_time-in-Timed))

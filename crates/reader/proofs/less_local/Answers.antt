@@ -12,23 +12,20 @@ use Rattle.local.specs.Local.{asked_second, offset_of_instant, offset_of_local, 
 use Rattle.local.proofs.Whole.{offset-small}
 use Rattle.reader.proofs.Sums.{difference-made, difference-value}
 use Rattle.reader.proofs.less_local.Goals as goal
-use Rattle.reader.proofs.less_local.Goals.{After-lookup, Start}
+use Rattle.reader.proofs.less_local.Goals.{After-lookup}
 
 module _ (c : After-lookup) where
-  abbrev s : Start
-  s = c.before.before.before.before
-
   abbrev o : ℤ
   o = c.lookup.result
 
-  offset-is : o ≡ offset_of_instant (records s.args.zone.now) s.args.t
+  offset-is : o ≡ offset_of_instant (records c.args.zone.bytes.now) c.args.t
   unfolding offset_of_instant
   offset-is =
       let second = c.second_of in
-      c.lookup.ensures ∙ ap (offset_at (records s.args.zone.now)) (kept {w = w64} (record { sfits = second.type_inv }) ∙ second.ensures ∙ ap asked_second (kept s.ranges.t))
+      c.lookup.ensures ∙ ap (offset_at (records c.args.zone.bytes.now)) (kept {w = w64} (record { sfits = second.type_inv }) ∙ second.ensures ∙ ap asked_second (kept c.ranges.t))
 
   bounded : nat_abs o ≤ 86_399
-  bounded = subst (λ (z : ℤ). nat_abs z ≤ 86_399) (sym offset-is) (offset-small _ s.requires.0.rule _)
+  bounded = subst (λ (z : ℤ). nat_abs z ≤ 86_399) (sym offset-is) (offset-small _ c.args.zone.accepted.rule _)
 
   shift_small : nat_abs (o *ℤ pos 1_000) ≤ 100_000_000
   shift_small = abs-out (o *ℤ pos 1000) (omega (arith, abs-in o bounded, read (at o ᵗ* 1000)))
@@ -45,10 +42,10 @@ pub overflow_mul-result : goal.overflow_mul-result
 overflow_mul-result c = (shifted c).made
 
 pub overflow_sub-result : goal.overflow_sub-result
-overflow_sub-result c = difference-made (s c).args.t (o c *ℤ pos 1000) _ _ (kept (s c).ranges.t) (shifted c).value (s c).requires.1 (shift_small c)
+overflow_sub-result c = difference-made c.args.t (o c *ℤ pos 1000) _ _ (kept c.ranges.t) (shifted c).value c.requires (shift_small c)
 
 pub returns : goal.returns
 unfolding utc_time offset_of_local
 returns c =
-    difference-value (s c).args.t (o c *ℤ pos 1000) _ _ (kept (s c).ranges.t) (shifted c).value (s c).requires.1 (shift_small c)
-    ∙ ap (λ (z : ℤ). (s c).args.t -ℤ z *ℤ pos 1000) (offset-is c)
+    difference-value c.args.t (o c *ℤ pos 1000) _ _ (kept c.ranges.t) (shifted c).value c.requires (shift_small c)
+    ∙ ap (λ (z : ℤ). c.args.t -ℤ z *ℤ pos 1000) (offset-is c)

@@ -3,36 +3,37 @@ use mathlib.Core.Path.{◌≡◌, sym, ap, ◌∙◌}
 use mathlib.Core.Bool.{true}
 use mir.Syntax.{w64}
 use Rattle.integers.proofs.Machine.{kept}
-use Rattle.zone.specs.Zone.{accepts}
-use Rattle.zone.proofs.Rule.{accepts-sound}
+use Rattle.std.specs.Prelude.{List, ℕ, is_some}
+use Rattle.zone.specs.Zone.{records, accepts}
 use Rattle.parser.specs.Inner.{as_reading, as_form}
 use Rattle.parser.proofs.Accepts.{read-printed}
 use Rattle.answer.specs.declared.Reply.TheVariants.{Refused}
+use Rattle.reader.specs.Denotes.{instant_of}
 use Rattle.reader.specs.Outcome.{answer_at}
 use Rattle.reader.proofs.Answers.{list-refused, text-refused, text-read}
 use Rattle.reader.proofs.read.Goals as goal
-use Rattle.reader.proofs.read.Goals.{Else-not-accept}
+use Rattle.reader.proofs.read.Goals.{In-Some}
 
--- past the first test the list is accepted
-accepted : (c : Else-not-accept) → accepts c.args.zone.now ≡ true
-accepted c = sym c.accept.ensures ∙ c.if-not-accept.false
+-- past the first test the list is accepted, and holds the bytes
+accepted : (c : In-Some) → accepts c.args.zone.now ≡ true
+accepted c = sym c.accept.ensures.decided ∙ ap is_some c.in-Some.is
 
-pub returns-then-not-accept : goal.returns-then-not-accept
-returns-then-not-accept c = list-refused _ _ (sym c.accept.ensures ∙ c.if-not-accept.true)
+same : (c : In-Some) → c.in-Some.list.bytes.now ≡ c.args.zone.now
+same c = rw c.in-Some.is at c.accept.ensures.kept
+
+pub returns-in_default : goal.returns-in_default
+returns-in_default c = list-refused _ _ (sym c.accept.ensures.decided ∙ ap is_some c.in_default.is)
 
 pub instant_of-requires : goal.instant_of-requires
-instant_of-requires c = (
-  accepts-sound _ (accepted (goal.at.instant_of-requires c).Else-not-accept),
-  (read-printed c.args.text.now (as_form c.in-Read.form) (sym c.parse_text.ensures ∙ ap as_reading c.in-Read.is)).bounds,
-)
+instant_of-requires c = (read-printed c.args.text.now (as_form c.in-Read.form) (sym c.parse_text.ensures ∙ ap as_reading c.in-Read.is)).bounds
 
 pub returns-in-Refused : goal.returns-in-Refused
 returns-in-Refused c =
     let f = c.in-Refused in
-    ap Refused c.refusal_of.ensures ∙ text-refused _ _ f.f (accepted (goal.at.returns-in-Refused c).Else-not-accept) (sym c.parse_text.ensures ∙ ap as_reading f.is)
+    ap Refused c.refusal_of.ensures ∙ text-refused _ _ f.f (accepted (goal.at.returns-in-Refused c).In-Some) (sym c.parse_text.ensures ∙ ap as_reading f.is)
 
 pub returns-in-Read : goal.returns-in-Read
 returns-in-Read c =
     let f = c.in-Read in
-    c.answer_at.ensures ∙ ap answer_at (kept {w = w64} (record { sfits = c.instant_of.type_inv }) ∙ c.instant_of.ensures)
-    ∙ text-read _ _ (as_form f.form) (accepted (goal.at.returns-in-Read c).Else-not-accept) (sym c.parse_text.ensures ∙ ap as_reading f.is)
+    c.answer_at.ensures ∙ ap answer_at (kept {w = w64} (record { sfits = c.instant_of.type_inv }) ∙ c.instant_of.ensures ∙ ap (λ (bytes : List ℕ). instant_of (records bytes) (as_form f.form)) (same (goal.at.returns-in-Read c).In-Some))
+    ∙ text-read _ _ (as_form f.form) (accepted (goal.at.returns-in-Read c).In-Some) (sym c.parse_text.ensures ∙ ap as_reading f.is)

@@ -9,7 +9,7 @@ use Rattle.writer.proofs.to_date_string_t.Goals.{After-local_time-t}
 
 shown : (c : After-local_time-t) → IsShown c.local_time-t.result
 shown c =
-    local-is-shown c.args.zone.now c.requires.1 c.requires.0 c.local_time-t.ensures
+    local-is-shown c.args.zone.bytes.now c.args.zone.accepted c.requires c.local_time-t.ensures
 
 pub date_fields-requires : goal.date_fields-requires
 date_fields-requires c = shown (goal.at.date_fields-requires c).After-local_time-t
@@ -17,11 +17,11 @@ date_fields-requires c = shown (goal.at.date_fields-requires c).After-local_time
 pub local_string-printed-requires : goal.local_string-printed-requires
 local_string-printed-requires c = (
   fields-printable c.date_fields.ensures (shown (goal.at.local_string-printed-requires c).After-local_time-t).shown,
-  offset-printable c.args.zone.now c.requires.1 c.requires.0 c.local_time-t.ensures c.local_timezone_offset_seconds-offset.ensures,
+  offset-printable c.args.zone.bytes.now c.args.zone.accepted c.requires c.local_time-t.ensures c.local_timezone_offset_seconds-offset.ensures,
 )
 
 pub returns : goal.returns
 returns c =
     prints-leaves _
-    (prints-as (local-text c.args.zone.now c.requires.1 c.requires.0 c.local_time-t.ensures c.local_timezone_offset_seconds-offset.ensures c.date_fields.ensures) c.local_string-printed.ensures)
+    (prints-as (local-text c.args.zone.bytes.now c.args.zone.accepted c.requires c.local_time-t.ensures c.local_timezone_offset_seconds-offset.ensures c.date_fields.ensures) c.local_string-printed.ensures)
     (c.reply.ensures ∙ ap (λ (v : ℕ). replied v c.local_string-printed.result) c.bits_of.ensures)

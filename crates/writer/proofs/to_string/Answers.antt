@@ -1,31 +1,33 @@
 -- `writer::to_string` meets its contract. Assumes nothing.
-use mathlib.Core.Path.{◌≡◌, sym, ◌∙◌}
+use mathlib.Core.Path.{◌≡◌, sym, ap, ◌∙◌}
+use Rattle.std.specs.Prelude.{is_some}
 use mathlib.Core.Bool.{true}
 use Rattle.zone.specs.Zone.{accepts}
-use Rattle.zone.proofs.Rule.{accepts-sound}
 use Rattle.writer.proofs.Given.{refused-leaves, list-refused, local-given, time-is}
 use Rattle.writer.proofs.to_string.Goals as goal
-use Rattle.writer.proofs.to_string.Goals.{Else-not-accept}
+use Rattle.writer.proofs.to_string.Goals.{In-Some}
 
--- past the first test the list is accepted
-accepted : (c : Else-not-accept) → accepts c.args.zone.now ≡ true
-accepted c = sym c.accept.ensures ∙ c.if-not-accept.false
+-- past the first test the list is accepted, and holds the bytes
+accepted : (c : In-Some) → accepts c.args.zone.now ≡ true
+accepted c = sym c.accept.ensures.decided ∙ ap is_some c.in-Some.is
 
-pub returns-then-not-accept : goal.returns-then-not-accept
-returns-then-not-accept c = list-refused _ _ _ (sym c.accept.ensures ∙ c.if-not-accept.true)
+same : (c : In-Some) → c.in-Some.list.bytes.now ≡ c.args.zone.now
+same c = rw c.in-Some.is at c.accept.ensures.kept
+
+pub returns-in_default : goal.returns-in_default
+returns-in_default c = list-refused _ _ _ (sym c.accept.ensures.decided ∙ ap is_some c.in_default.is)
 
 pub to_date_string_t-requires : goal.to_date_string_t-requires
-to_date_string_t-requires c =
-    (time-is _ c.time_value.ensures c.in-Time.is, accepts-sound _ (accepted (goal.at.to_date_string_t-requires c).Else-not-accept))
+to_date_string_t-requires c = time-is _ c.time_value.ensures c.in-Time.is
 
 pub returns-in-Refused : goal.returns-in-Refused
-returns-in-Refused c =
-    local-given _ (accepted (goal.at.returns-in-Refused c).Else-not-accept) _ _ c.time_value.ensures c.in-Refused.is refused-leaves
+returns-in-Refused c = local-given _ (accepted (goal.at.returns-in-Refused c).In-Some) _ _ c.time_value.ensures c.in-Refused.is refused-leaves
 
 pub returns-in-Nan : goal.returns-in-Nan
-returns-in-Nan c =
-    local-given _ (accepted (goal.at.returns-in-Nan c).Else-not-accept) _ _ c.time_value.ensures c.in-Nan.is c.write_invalid.ensures
+returns-in-Nan c = local-given _ (accepted (goal.at.returns-in-Nan c).In-Some) _ _ c.time_value.ensures c.in-Nan.is c.write_invalid.ensures
 
 pub returns-in-Time : goal.returns-in-Time
 returns-in-Time c =
-    local-given _ (accepted (goal.at.returns-in-Time c).Else-not-accept) _ _ c.time_value.ensures c.in-Time.is c.to_date_string_t.ensures
+    let place = (goal.at.returns-in-Time c).In-Some in
+    let bytes = same place in
+    local-given _ (accepted place) _ _ c.time_value.ensures c.in-Time.is (rw bytes at c.to_date_string_t.ensures)

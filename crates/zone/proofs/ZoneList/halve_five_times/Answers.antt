@@ -1,11 +1,11 @@
--- `zone::halve_five_times` meets its contract. Assumes nothing.
+-- `ZoneList::halve_five_times` meets its contract. Assumes nothing.
 use mathlib.Core.Path.{◌≡◌, subst}
 use Prim.Native.Nat.{ℕ, ◌+◌, ◌*◌, ◌-◌, ◌/◌, ◌≤◌}
 use native.Mathlib.Omega.{arith}
 use lib.IntN.{ℤ}
 use Rattle.integers.proofs.Machine.{kept}
 use Rattle.zone.specs.Inner.{Narrowed}
-use Rattle.zone.proofs.halve_five_times.Goals as goal
+use Rattle.zone.proofs.ZoneList.halve_five_times.Goals as goal
 
 -- the records that are left
 once : (n m : ℕ) → m ≡ n - n / 2 → 2 * m ≤ n + 1
@@ -20,4 +20,4 @@ five n a b c d e p q r s t = all (once n a p) (once a b q) (once b c r) (once c 
 pub returns : goal.returns
 returns c =
     let r = c.halve.result in
-    (subst (λ (t : ℤ). Narrowed c.args.zone.now t r.low (r.low + r.size)) (kept c.ranges.second) c.halve.ensures.0, five _ _ _ _ _ _ c.halve-half.ensures.1 c.halve-quarter.ensures.1 c.halve-eighth.ensures.1 c.halve-sixteenth.ensures.1 c.halve.ensures.1)
+    (subst (λ (t : ℤ). Narrowed c.args.self.bytes.now t r.low (r.low + r.size)) (kept c.ranges.second) c.halve.ensures.0, five _ _ _ _ _ _ c.halve-half.ensures.1 c.halve-quarter.ensures.1 c.halve-eighth.ensures.1 c.halve-sixteenth.ensures.1 c.halve.ensures.1)

@@ -1,8 +1,8 @@
--- `zone::accept` meets its contract: before record i, every record so far keeps the rule. Assumes nothing.
+-- `zone::accepts` meets its contract: before record i, every record so far keeps the rule. Assumes nothing.
 use Prim.Native.Nat.{◌-◌, ◌≤◌}
 use lib.Dec.{T}
 use Rattle.zone.specs.Zone.{records, keeps, all_below}
-use Rattle.zone.proofs.accept.Given as goal
+use Rattle.zone.proofs.accepts.Given as goal
 
 abbrev pub invariant-loop-i : goal.invariant-loop-i
 invariant-loop-i l = (l.i ≤ l.n) × T (all_below l.i (keeps (records l.zone)))

@@ -1,4 +1,4 @@
--- `zone::accept` meets its contract: before record i, every record so far keeps the rule. Assumes nothing.
+-- `zone::accepts` meets its contract: before record i, every record so far keeps the rule. Assumes nothing.
 use mathlib.Core.Path.{sym, subst, ◌∙◌}
 use Prim.Native.Nat.{ℕ, ◌+◌}
 use native.Mathlib.Nat.{add_assoc}
@@ -6,7 +6,7 @@ use native.Mathlib.Omega.{arith}
 use lib.Dec.{T}
 use Rattle.zone.specs.Zone.{records, keeps, all_below}
 use Rattle.zone.proofs.Rule.{all-below-more, refuses, accepted-size, refuses-record, accepts-all, accepts_last}
-use Rattle.zone.proofs.accept.Goals as goal
+use Rattle.zone.proofs.accepts.Goals as goal
 
 pub returns-then-zone-n : goal.returns-then-zone-n
 returns-then-zone-n c = sym (refuses _ (λ a. c.if-zone-n.true (accepted-size _ a).0))
