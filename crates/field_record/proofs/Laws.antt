@@ -69,10 +69,10 @@ module _ (bytes : List ℕ) (i : ℕ) where
   unfolding place_of
   place-room f h = omega (arith, ones-own (map_of bytes) i (eqb-true (map_of bytes / 2 ^ i % 2) 1 h), right-length bytes f)
 
-  -- with a value for an absent field, what a call takes it to be
-  pub given-or : (absent : Float) → unwrap_or (given bytes i) absent ≡ field_or bytes i absent
+  -- with a value for an absent one, what a call takes the field to be
+  pub given_or : (absent : Float) → unwrap_or (given bytes i) absent ≡ field_or bytes i absent
   unfolding given field_or
-  given-or absent = elim (stands bytes i) as (λ b. unwrap_or (cond b (Some (field_at bytes i)) None) absent ≡ cond b (field_at bytes i) absent) [ true ↦ refl | false ↦ refl ]
+  given_or absent = elim (stands bytes i) as (λ b. unwrap_or (cond b (Some (field_at bytes i)) None) absent ≡ cond b (field_at bytes i) absent) [ true ↦ refl | false ↦ refl ]
 
 -- ---- the answer of `has_other_bit`
 pub other_bit : (bytes : List ℕ) (bits : ℕ) → not (eqb (map_of bytes / 2 ^ bits) 0) ≡ has_other_bit bits bytes

@@ -1,7 +1,7 @@
 // The field record, in which a call's arguments cross: lent bytes, a map and then 8 for each bit that stands in it.
 #![tactic(auto)]
 
-ghost use Rattle.std.specs.Prelude.{◌≡◌, true, false, ◌+◌, ◌<◌, MatchOption};
+ghost use Rattle.std.specs.Prelude.{◌≡◌, true, ◌+◌, ◌<◌, is_some, IfSome};
 ghost use Rattle.field_record.specs.FieldRecord.{stands, has_length, has_other_bit, place_of};
 ghost use Rattle.field_record.specs.Inner.{given};
 
@@ -25,7 +25,8 @@ pub struct FieldRecord<'a> {
 impl<'a> FieldRecord<'a> {
     // Refusal 3 is the answer `None`.
     pub fn new(bytes: &'a [u8]) -> Option<FieldRecord<'a>>
-        ensures { MatchOption result (has_length bytes.now ≡ false) (λ made. made.bytes.now ≡ bytes.now) }
+        ensures decided { is_some result ≡ has_length bytes.now }
+        ensures kept { IfSome result (λ made. made.bytes.now ≡ bytes.now) }
     {
         if has_length(bytes) {
             return Some(FieldRecord { bytes });
