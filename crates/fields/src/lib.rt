@@ -6,9 +6,9 @@
 ghost use Rattle.std.specs.Prelude.{◌≡◌, true, not, ◌&&◌};
 ghost use Rattle.zone.specs.Zone.{records, Accepted, accepts};
 ghost use Rattle.new_date.specs.Calls.{set, bits_of, shift_in};
-ghost use Rattle.fields.specs.Outcome.{is_refused, start_of, build_outcome, set_outcome};
+ghost use Rattle.fields.specs.Outcome.{start_of, build_outcome, set_outcome};
 
-use answer::{Refusal, Reply};
+use answer::Refusal;
 use new_date::Part;
 use timevalue::TimeValue;
 
@@ -34,33 +34,22 @@ fn is_list_refused(local: bool, zone: &[u8]) -> bool
 // ---- the builder
 
 // Date.UTC, and the constructor of many fields
-pub fn build(local: bool, zone: &[u8], fields: &[u8]) -> Reply
+pub fn build(local: bool, zone: &[u8], fields: &[u8]) -> Result<u64, Refusal>
     ensures { result ≡ build_outcome local zone.now fields.now }
 {
     if is_list_refused(local, zone) {
-        return Reply::Refused(Refusal::ZoneList);
+        return Err(Refusal::ZoneList);
     }
     if !field_record::has_length(fields) {
-        return Reply::Refused(Refusal::RecordLength);
+        return Err(Refusal::RecordLength);
     }
     if field_record::has_other_bit(fields, 7) {
-        return Reply::Refused(Refusal::RecordMap);
+        return Err(Refusal::RecordMap);
     }
-    Reply::Time(new_date::value_of(local, zone, new_date::built(fields)))
+    Ok(new_date::value_of(local, zone, new_date::built(fields)))
 }
 
 // ---- the setters
-
-// Whether a time's bits are turned back: refusal 2.
-fn is_refused(date: TimeValue) -> bool
-    ensures { result ≡ is_refused date }
-{
-    match date {
-        TimeValue::Time(_) => false,
-        TimeValue::Nan => false,
-        TimeValue::Refused => true,
-    }
-}
 
 // How many arguments a setter has.
 fn bits_of(first: Part) -> u32
@@ -95,28 +84,24 @@ fn start_of(local: bool, zone: &[u8], date: TimeValue) -> f64
 {
     match date {
         TimeValue::Time(t) => shift_in(local, zone, t),
-        TimeValue::Nan => 0.0 / 0.0,
-        TimeValue::Refused => 0.0 / 0.0,
+        TimeValue::Nan => f64::NAN,
     }
 }
 
 // The setter that is named after this part: Date.prototype.setHours and setUTCHours for `Part::Hours`, and so on.
-pub fn set(first: Part, local: bool, zone: &[u8], time: u64, fields: &[u8]) -> Reply
+pub fn set(first: Part, local: bool, zone: &[u8], time: u64, fields: &[u8]) -> Result<u64, Refusal>
     ensures { result ≡ set_outcome first local zone.now time fields.now }
 {
     if is_list_refused(local, zone) {
-        return Reply::Refused(Refusal::ZoneList);
+        return Err(Refusal::ZoneList);
     }
-    let date = timevalue::time_value(time);
-    if is_refused(date) {
-        return Reply::Refused(Refusal::TimeValue);
-    }
+    let date = timevalue::time_value(time).ok_or(Refusal::TimeValue)?;
     let t = start_of(local, zone, date);
     if !field_record::has_length(fields) {
-        return Reply::Refused(Refusal::RecordLength);
+        return Err(Refusal::RecordLength);
     }
     if field_record::has_other_bit(fields, bits_of(first)) {
-        return Reply::Refused(Refusal::RecordMap);
+        return Err(Refusal::RecordMap);
     }
-    Reply::Time(new_date::value_of(local, zone, new_date::set(first, t, fields)))
+    Ok(new_date::value_of(local, zone, new_date::set(first, t, fields)))
 }

@@ -5,7 +5,7 @@ use lib.Ieee.{Float, binary64, to_bits}
 use Rattle.zone.specs.Zone.{accepts, records}
 use Rattle.new_date.specs.Calls.{value_out, value_from}
 use Rattle.field_record.specs.FieldRecord.{has_length}
-use Rattle.answer.specs.declared.Reply.TheVariants as reply
+use Rattle.std.specs.Prelude.{Ok}
 use Rattle.fields.specs.Outcome.{build_outcome}
 use Rattle.fields.proofs.Rows.{listed}
 use Rattle.fields.proofs.build.Goals as goal
@@ -41,4 +41,4 @@ unfolding build_outcome value_from
 returns c =
     let a = c.args in
     rw (list-test (goal.at.returns c).After-is_list_refused ∙ c.if-is_list_refused.false, filled (goal.at.returns c).Else-not-has_length, sym c.has_other_bit.ensures ∙ c.if-has_other_bit.false)
-    (ap reply.Time (c.value_of.ensures ∙ ap (λ (x : Float). to_bits binary64 (value_out a.local (records a.zone.now) x)) c.built.ensures))
+    (ap Ok (c.value_of.ensures ∙ ap (λ (x : Float). to_bits binary64 (value_out a.local (records a.zone.now) x)) c.built.ensures))
