@@ -1,12 +1,11 @@
 -- The number, the time value and the length of every answer, from document 01's table "Where a call is turned back". Definitions only.
 -- Assumes nothing.
-use Rattle.std.specs.Prelude.{ℕ, ℤ}
+use Rattle.std.specs.Prelude.{ℕ, ℤ, Result, Ok, Err}
 use Rattle.std.specs.Float.{binary64}
 use Rattle.std.specs.Float.Ieee.{of_int, to_bits}
 use Rattle.answer.specs.declared.Refusal.{Refusal}
 use Rattle.answer.specs.declared.Refusal.TheVariants.{ZoneList, TimeValue, RecordLength, RecordMap, TextEnds, TextByte, TextField, TextRest, Instant, NoTime, Output}
-use Rattle.answer.specs.declared.Reply.{Reply}
-use Rattle.answer.specs.declared.Reply.TheVariants.{Time, Text, Refused}
+use Rattle.answer.specs.declared.Text.{Text}
 use Rattle.answer.specs.declared.Answer.{Answer}
 
 -- the table's number of each fault
@@ -31,9 +30,20 @@ nan_value = 0x7FF8_0000_0000_0000
 abbrev pub time_bits : ℤ → ℕ
 time_bits t = to_bits binary64 (of_int binary64 t)
 
--- "Success is 0." "An answer is a number, a time value and a length." "The reader, builder and setters have length 0." A refused call has
--- the fault's number, NaN and length 0.
-abbrev pub answer_of : Reply → Answer
-answer_of (Time v) = record { number = 0; value = v; length = 0 }
-answer_of (Text v n) = record { number = 0; value = v; length = n }
-answer_of (Refused f) = record { number = refusal_number f; value = nan_value; length = 0 }
+-- a text of so many bytes was written for a time value, whose bits are given
+abbrev pub text_reply : ℕ → ℕ → Result Text Refusal
+text_reply v n = Ok (record { value = v; length = n })
+
+-- A refused call has the fault's number, NaN and length 0.
+abbrev pub refused_answer : Refusal → Answer
+refused_answer f = record { number = refusal_number f; value = nan_value; length = 0 }
+
+-- "Success is 0." "An answer is a number, a time value and a length." The writers and rewriting:
+abbrev pub answer_of : Result Text Refusal → Answer
+answer_of (Ok t) = record { number = 0; value = t.value; length = t.length }
+answer_of (Err f) = refused_answer f
+
+-- "The reader, builder and setters have length 0." What these answer is a time value's bits.
+abbrev pub answer_of_time : Result ℕ Refusal → Answer
+answer_of_time (Ok v) = record { number = 0; value = v; length = 0 }
+answer_of_time (Err f) = refused_answer f

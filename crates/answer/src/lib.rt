@@ -1,11 +1,12 @@
-// What a call answers. Inside, an answer is an enum; a C function answers its number, time value and length.
+// What a call answers. Inside, that is a `Result`: what the call made, or why it is turned back. A C function answers its number, time value and
+// length.
 #![tactic(auto)]
 
 ghost use Rattle.std.specs.Prelude.{◌≡◌};
-ghost use Rattle.answer.specs.Answer.{refusal_number, answer_of};
+ghost use Rattle.answer.specs.Answer.{refusal_number, refused_answer, answer_of, answer_of_time};
 
 // Why a call is turned back: the faults of document 01's table, in its order.
-#[derive(Clone, Copy)]
+#[derive(Clone, Copy, Debug, PartialEq, Eq)]
 pub enum Refusal {
     // Zone list: length, order or offset outside its rule.
     ZoneList,
@@ -31,13 +32,11 @@ pub enum Refusal {
     Output,
 }
 
-#[derive(Clone, Copy)]
-pub enum Reply {
-    // A time value, by its bits: the reader, the builder and the setters.
-    Time(u64),
-    // A text of `length` bytes was written for the time value.
-    Text { value: u64, length: usize },
-    Refused(Refusal),
+// A text of `length` bytes was written for a time value, which is given by its bits.
+#[derive(Clone, Copy, Debug, PartialEq, Eq)]
+pub struct Text {
+    pub value: u64,
+    pub length: usize,
 }
 
 // As the header declares it.
@@ -49,42 +48,67 @@ pub struct Answer {
     pub length: usize,
 }
 
-pub fn refusal_number(f: Refusal) -> u32
-    ensures { result ≡ refusal_number f }
-{
-    match f {
-        Refusal::ZoneList => 1,
-        Refusal::TimeValue => 2,
-        Refusal::RecordLength => 3,
-        Refusal::RecordMap => 4,
-        Refusal::TextEnds => 5,
-        Refusal::TextByte => 6,
-        Refusal::TextField => 7,
-        Refusal::TextRest => 8,
-        Refusal::Instant => 9,
-        Refusal::NoTime => 10,
-        Refusal::Output => 11,
+// The table's numbers.
+impl From<Refusal> for u32 {
+    ghost from_gives = { λ f number. number ≡ refusal_number f };
+
+    fn from(f: Refusal) -> u32 {
+        match f {
+            Refusal::ZoneList => 1,
+            Refusal::TimeValue => 2,
+            Refusal::RecordLength => 3,
+            Refusal::RecordMap => 4,
+            Refusal::TextEnds => 5,
+            Refusal::TextByte => 6,
+            Refusal::TextField => 7,
+            Refusal::TextRest => 8,
+            Refusal::Instant => 9,
+            Refusal::NoTime => 10,
+            Refusal::Output => 11,
+        }
     }
 }
 
-pub fn answer_of(a: Reply) -> Answer
-    ensures { result ≡ answer_of a }
-{
-    match a {
-        Reply::Time(value) => Answer {
-            number: 0,
-            value: value,
-            length: 0,
-        },
-        Reply::Text { value, length } => Answer {
-            number: 0,
-            value: value,
-            length: length,
-        },
-        Reply::Refused(f) => Answer {
-            number: refusal_number(f),
+impl From<Refusal> for Answer {
+    ghost from_gives = { λ f answer. answer ≡ refused_answer f };
+
+    fn from(f: Refusal) -> Answer {
+        Answer {
+            number: u32::from(f),
             value: 0x7FF8_0000_0000_0000,
             length: 0,
-        },
+        }
+    }
+}
+
+// The writers and rewriting.
+impl From<Result<Text, Refusal>> for Answer {
+    ghost from_gives = { λ written answer. answer ≡ answer_of written };
+
+    fn from(written: Result<Text, Refusal>) -> Answer {
+        match written {
+            Ok(text) => Answer {
+                number: 0,
+                value: text.value,
+                length: text.length,
+            },
+            Err(f) => Answer::from(f),
+        }
+    }
+}
+
+// The reader, the builder and the setters: a time value, by its bits.
+impl From<Result<u64, Refusal>> for Answer {
+    ghost from_gives = { λ time answer. answer ≡ answer_of_time time };
+
+    fn from(time: Result<u64, Refusal>) -> Answer {
+        match time {
+            Ok(value) => Answer {
+                number: 0,
+                value: value,
+                length: 0,
+            },
+            Err(f) => Answer::from(f),
+        }
     }
 }

@@ -6,8 +6,10 @@ use native.Mathlib.Omega.{arith}
 use lib.ListN.{length, take, drop, length-drop}
 use lib.Seq.{take_all, drop-drop, drop-length}
 use borrow.Rule.Slice.PartMut.{mid_of, put_mid}
-use Rattle.answer.specs.declared.Reply.{Reply}
-use Rattle.answer.specs.declared.Reply.TheVariants.{Text}
+use Rattle.std.specs.Prelude.{Result, Ok}
+use Rattle.answer.specs.Answer.{text_reply}
+use Rattle.answer.specs.declared.Refusal.{Refusal}
+use Rattle.answer.specs.declared.Text.{Text}
 use Rattle.writer.specs.Outcome.{Outcome, Leaves}
 use Rattle.writer.specs.Writer.{iso_outcome}
 use Rattle.datelines.specs.Lines.{iso_of_bits, IsTimeBits, Appends}
@@ -15,7 +17,7 @@ use Rattle.datelines.proofs.Runs.{part-puts}
 use Rattle.datelines.proofs.Times.{iso-outcome}
 use Rattle.datelines.proofs.Streams.{iso-length}
 
-module _ {bits : ℕ} (b : IsTimeBits bits) (out : List ℕ) (i : ℕ) (room : i + 27 ≤ length out) {r : Reply} {ys : List ℕ}
+module _ {bits : ℕ} (b : IsTimeBits bits) (out : List ℕ) (i : ℕ) (room : i + 27 ≤ length out) {r : Result Text Refusal} {ys : List ℕ}
     (l : Leaves (iso_outcome bits (mid_of i (length out - i) out)) r ys) where
   part : mid_of i (length out - i) out ≡ drop i out
   part = take_all (length out - i) (drop i out) (simp length-drop (omega arith))
@@ -24,16 +26,16 @@ module _ {bits : ℕ} (b : IsTimeBits bits) (out : List ℕ) (i : ℕ) (room : i
   rest = drop-drop (length out - i) i out ∙ ap (λ (n : ℕ). drop n out) (let e : i + (length out - i) ≡ length out = omega arith in e) ∙ drop-length out
 
   outcome : iso_outcome bits (mid_of i (length out - i) out)
-      ≡ record { reply = Text bits (length (iso_of_bits bits)); output = iso_of_bits bits ++ drop (length (iso_of_bits bits)) (mid_of i (length out - i) out) }
+      ≡ record { reply = text_reply bits (length (iso_of_bits bits)); output = iso_of_bits bits ++ drop (length (iso_of_bits bits)) (mid_of i (length out - i) out) }
   outcome = iso-outcome b (mid_of i (length out - i) out) (rw part (simp length-drop (omega (arith, iso-length bits))))
 
-  pub reply-is-text : r ≡ Text bits (length (iso_of_bits bits))
+  pub reply-is-text : r ≡ text_reply bits (length (iso_of_bits bits))
   reply-is-text = l.reply-is ∙ ap (λ (o : Outcome). o.reply) outcome
 
-  pub text-length : {v n : ℕ} → r ≡ Text v n → n ≡ length (iso_of_bits bits)
+  pub text-length : {t : Text} → r ≡ Ok t → t.length ≡ length (iso_of_bits bits)
   text-length e = let h = reply-is-text in cc
 
-  pub iso-puts : {v n : ℕ} → r ≡ Text v n → Appends out i (iso_of_bits bits) (i + n) (put_mid i (length out - i) out ys)
+  pub iso-puts : {t : Text} → r ≡ Ok t → Appends out i (iso_of_bits bits) (i + t.length) (put_mid i (length out - i) out ys)
   iso-puts e =
       part-puts (iso_of_bits bits) out (omega (arith, iso-length bits))
       (ap (λ (z : List ℕ). take i out ++ z) (ap₂ (λ (x y : List ℕ). x ++ y) written rest ∙ append-nil _))

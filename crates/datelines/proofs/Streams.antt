@@ -19,9 +19,9 @@ use Rattle.ecma262.specs.Format.{Form}
 use Rattle.parser.specs.Reading.{Out}
 use Rattle.parser.proofs.Prefix.{read-prefix}
 use Rattle.answer.specs.Answer.{refusal_number}
+use Rattle.answer.specs.declared.Refusal.{Refusal}
 use Rattle.answer.specs.declared.Refusal.TheVariants.{ZoneList}
-use Rattle.answer.specs.declared.Reply.{Reply}
-use Rattle.answer.specs.declared.Reply.TheVariants.{Time, Text, Refused}
+use Rattle.std.specs.Prelude.{Result, Ok, Err}
 use Rattle.reader.specs.Outcome.{reply_for, read_outcome}
 use Rattle.datelines.specs.Lines.{accepted_line, refused_line, answer_line, line_of, last_of, answers_from, answers, behind, prints, emitted, left, lent, answers_of_chunks, joined, iso_of_bits}
 use Rattle.datelines.proofs.Decimal.{within, signed-length}
@@ -30,10 +30,10 @@ use Rattle.datelines.proofs.Decimal.{within, signed-length}
 pub line-prefix : (n : ℕ) (text : List ℕ) → 33 ≤ n → line_of (take n text) ≡ line_of text
 unfolding line_of read_outcome
 line-prefix n text h =
-    ap (λ (r : Out Form). answer_line (cond (accepts (replicate 12 0)) (reply_for (records (replicate 12 0)) r) (Refused ZoneList))) (read-prefix n text h)
+    ap (λ (r : Out Form). answer_line (cond (accepts (replicate 12 0)) (reply_for (records (replicate 12 0)) r) (Err ZoneList))) (read-prefix n text h)
 
 -- the answer by the reader's answer
-pub line-of : (text : List ℕ) (r : Reply) → read_outcome (replicate 12 0) text ≡ r → answer_line r ≡ line_of text
+pub line-of : (text : List ℕ) (r : Result ℕ Refusal) → read_outcome (replicate 12 0) text ≡ r → answer_line r ≡ line_of text
 unfolding line_of
 line-of text r e = ap answer_line (sym e)
 
@@ -73,11 +73,10 @@ iso-length bits = go (lengths-iso (trunc_z (of_bits binary64 bits)))
     go (inl e) = omega arith
     go (inr e) = omega arith
 
-answer-length : (r : Reply) → length (answer_line r) ≤ 64
+answer-length : (r : Result ℕ Refusal) → length (answer_line r) ≤ 64
 unfolding accepted_line refused_line
-answer-length (Time bits) = simp length-append (omega (arith, iso-length bits, signed-length (trunc_z (of_bits binary64 bits))))
-answer-length (Text v n) = omega arith
-answer-length (Refused f) = simp length-append (omega (arith, within 20 (refusal_number f)))
+answer-length (Ok bits) = simp length-append (omega (arith, iso-length bits, signed-length (trunc_z (of_bits binary64 bits))))
+answer-length (Err f) = simp length-append (omega (arith, within 20 (refusal_number f)))
 
 pub line-length : (text : List ℕ) → length (line_of text) ≤ 64
 unfolding line_of

@@ -16,8 +16,8 @@ use Rattle.float.specs.Whole.{IsWhole, trunc_z}
 use Rattle.float.proofs.Whole.{of_int-whole}
 use Rattle.float.proofs.Rounding.{trunc_z-whole}
 use Rattle.float.proofs.Casts.{to_signed-whole}
-use Rattle.answer.specs.Answer.{time_bits}
-use Rattle.answer.specs.declared.Reply.TheVariants.{Time, Text}
+use Rattle.std.specs.Prelude.{Ok}
+use Rattle.answer.specs.Answer.{time_bits, text_reply}
 use Rattle.writer.specs.Outcome.{written}
 use Rattle.writer.specs.Writer.{iso_outcome}
 use Rattle.writer.proofs.Outcomes.{written-whole, iso-writes}
@@ -44,15 +44,14 @@ module _ {bits : ℕ} (b : IsTimeBits bits) where
   cast-time = let h : InRange b.time = b.inside in ap (to_signed 63) back ∙ to_signed-whole 63 whole (mag-small b.time h) ∙ sym whole-time
 
   pub iso-outcome : (out : List ℕ) → length (iso_of_bits bits) ≤ length out
-      → iso_outcome bits out ≡ record { reply = Text bits (length (iso_of_bits bits)); output = iso_of_bits bits ++ drop (length (iso_of_bits bits)) out }
+      → iso_outcome bits out ≡ record { reply = text_reply bits (length (iso_of_bits bits)); output = iso_of_bits bits ++ drop (length (iso_of_bits bits)) out }
   unfolding iso_of_bits
   iso-outcome out l =
       ap (λ (n : ℕ). iso_outcome n out) b.bits_are ∙ iso-writes b.time b.inside out
       ∙ ap₂ (λ (n : ℕ) (z : ℤ). written n (iso_text z) out) (sym b.bits_are) (sym whole-time) ∙ written-whole bits (iso_of_bits bits) out l
 
 -- the reader's times are of the range
-pub read-bits : (zone text : List ℕ) (bits : ℕ) → read_outcome zone text ≡ Time bits → IsTimeBits bits
+pub read-bits : (zone text : List ℕ) (bits : ℕ) → read_outcome zone text ≡ Ok bits → IsTimeBits bits
 read-bits zone text bits e =
     let a = (accepted-exactly zone text).1 (bits, e) in
-    let same : Time (time_bits a.t) ≡ Time bits = sym ((reads-instant zone text a.list a.t a.inside).1 a.denotes) ∙ e in
-    record { time = a.t; inside = a.inside; bits_are = cc }
+    record { time = a.t; inside = a.inside; bits_are = cc ((reads-instant zone text a.list a.t a.inside).1 a.denotes) }

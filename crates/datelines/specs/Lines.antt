@@ -1,7 +1,7 @@
 -- What `datecheck` prints for an input, document 01: "under the list (0, 0), one text a line in, out the number and, for 0, the time value and
 -- ISO text". An empty line is the empty text, a last line without a newline counts, and a line is of any length. Definitions only. Assumes
 -- nothing.
-use Rattle.std.specs.Prelude.{◌≡◌, cond, List, [], ◌∷◌, ◌++◌, ℕ, zero, suc, ◌+◌, ◌/◌, ◌%◌, ltb, eqb, ℤ, pos, negsuc, length, replicate}
+use Rattle.std.specs.Prelude.{◌≡◌, cond, List, [], ◌∷◌, ◌++◌, ℕ, zero, suc, ◌+◌, ◌/◌, ◌%◌, ltb, eqb, ℤ, pos, negsuc, length, replicate, Result, Ok, Err}
 use Rattle.std.proofs.lemmas.List.Edits.{sets}
 use Rattle.std.specs.Float.{binary64}
 use Rattle.std.specs.Float.Ieee.{of_bits}
@@ -10,8 +10,7 @@ use Rattle.ecma262.specs.Digits.{digit}
 use Rattle.ecma262.specs.Texts.{ascii, iso_text}
 use Rattle.float.specs.Whole.{trunc_z}
 use Rattle.answer.specs.Answer.{refusal_number, time_bits}
-use Rattle.answer.specs.declared.Reply.{Reply}
-use Rattle.answer.specs.declared.Reply.TheVariants.{Time, Text, Refused}
+use Rattle.answer.specs.declared.Refusal.{Refusal}
 use Rattle.reader.specs.Outcome.{read_outcome}
 
 -- ---- numbers
@@ -45,11 +44,10 @@ accepted_line bits = ascii "0 " ++ signed_decimal (trunc_z (of_bits binary64 bit
 unfoldable pub refused_line : ℕ → List ℕ
 refused_line number = decimal number ++ newline
 
--- (The reader answers no text.)
-abbrev pub answer_line : Reply → List ℕ
-answer_line (Time bits) = accepted_line bits
-answer_line (Text value length) = []
-answer_line (Refused f) = refused_line (refusal_number f)
+-- the line of the reader's answer
+abbrev pub answer_line : Result ℕ Refusal → List ℕ
+answer_line (Ok bits) = accepted_line bits
+answer_line (Err f) = refused_line (refusal_number f)
 
 -- under the list (0, 0): one record, 12 bytes
 unfoldable pub line_of : List ℕ → List ℕ

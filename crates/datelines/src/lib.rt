@@ -7,8 +7,6 @@ ghost use Rattle.std.proofs.lemmas.List.Edits.{sets};
 ghost use Rattle.datelines.specs.Lines.{decimal, signed_decimal, iso_of_bits, accepted_line, refused_line, line_of, behind, prints, emitted, left, lent, last_of, IsTimeBits, Appends};
 ghost use Rattle.datelines.specs.Fed.{Feeds};
 
-use answer::Reply;
-
 // ---- a line's answer
 
 fn put_decimal(n: u64, output: &mut [u8], at: usize) -> usize
@@ -49,9 +47,8 @@ fn put_iso(bits: u64, output: &mut [u8], at: usize) -> usize
     ensures { Appends output.old at (iso_of_bits bits) result output.new }
 {
     match writer::to_iso_string(bits, &mut output[at..]) {
-        Reply::Text { value: _, length } => at + length,
-        Reply::Time(_) => at,
-        Reply::Refused(_) => at,
+        Ok(iso) => at + iso.length,
+        Err(_) => at,
     }
 }
 
@@ -85,12 +82,8 @@ pub fn put_line(text: &[u8], output: &mut [u8], at: usize) -> usize
 {
     let zone = [0u8; 12];
     match reader::read(&zone, text) {
-        Reply::Time(bits) => put_accepted(bits, output, at),
-        Reply::Text {
-            value: _,
-            length: _,
-        } => at,
-        Reply::Refused(f) => put_refused(answer::refusal_number(f), output, at),
+        Ok(bits) => put_accepted(bits, output, at),
+        Err(f) => put_refused(f.into(), output, at),
     }
 }
 

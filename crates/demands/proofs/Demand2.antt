@@ -41,7 +41,7 @@ use Rattle.local.specs.Local.{offset_of_instant, offset_of_suffix, local_time, u
 use Rattle.local.proofs.Whole.{local-time-shown}
 use Rattle.answer.specs.Answer.{nan_value, time_bits}
 use Rattle.answer.specs.declared.Refusal.TheVariants.{NoTime}
-use Rattle.answer.specs.declared.Reply.TheVariants.{Time}
+use Rattle.std.specs.Prelude.{Ok}
 use Rattle.new_date.specs.declared.Part.{Part}
 use Rattle.new_date.specs.declared.Part.TheVariants.{FullYear}
 use Rattle.new_date.specs.Calls.{Call, build, set}
@@ -144,7 +144,7 @@ pub accepts-exactly : (zone text : List ℕ) → (read_number zone text ≡ 0) �
 accepts-exactly = reading.zero-exactly
 
 -- and then the time is that of the instant denoted, of which there is one
-pub answers-the-instant : (zone text : List ℕ) (a : AcceptedText zone text) → read_outcome zone text ≡ Time (time_bits a.t)
+pub answers-the-instant : (zone text : List ℕ) (a : AcceptedText zone text) → read_outcome zone text ≡ Ok (time_bits a.t)
 answers-the-instant zone text a = reading.inside-answer zone text a.list a.t a.denotes a.inside
 
 pub denotes-one-instant : (zone text : List ℕ) (t u : ℤ) → Denotes zone text t → Denotes zone text u → t ≡ u

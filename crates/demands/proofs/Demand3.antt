@@ -20,8 +20,8 @@ use Rattle.ecma262.specs.Date.{InRange}
 use Rattle.ecma262.specs.Texts.{iso_text}
 use Rattle.ecma262.specs.Written.{Written}
 use Rattle.zone.specs.Zone.{Accepted}
-use Rattle.answer.specs.Answer.{time_bits}
-use Rattle.answer.specs.declared.Reply.TheVariants.{Time, Text}
+use Rattle.std.specs.Prelude.{Ok}
+use Rattle.answer.specs.Answer.{time_bits, text_reply}
 use Rattle.reader.specs.Denotes.{Denotes, AcceptedText}
 use Rattle.reader.specs.Outcome.{read_outcome}
 use Rattle.writer.specs.Writer.{iso_outcome}
@@ -41,11 +41,11 @@ exactly-one-text = runs.exactly-one-text
 
 -- "the ISO writer gives it": its answer is 0 with t and the text's length, and the bytes that it writes are the text
 pub iso-writer-gives-it : (t : ℤ) → InRange t → (out : List ℕ) → length (iso_text t) ≤ length out
-    → ((iso_outcome (time_bits t) out).reply ≡ Text (time_bits t) (length (iso_text t))) × (run_of (iso_outcome (time_bits t) out) ≡ iso_text t)
+    → ((iso_outcome (time_bits t) out).reply ≡ text_reply (time_bits t) (length (iso_text t))) × (run_of (iso_outcome (time_bits t) out) ≡ iso_text t)
 iso-writer-gives-it = runs.iso-writer-gives-it
 
 -- "and the reader, whatever accepted zone list it is lent, returns t from it"
-pub reader-returns-t : (zone : List ℕ) → Accepted zone → (t : ℤ) → InRange t → read_outcome zone (iso_text t) ≡ Time (time_bits t)
+pub reader-returns-t : (zone : List ℕ) → Accepted zone → (t : ℤ) → InRange t → read_outcome zone (iso_text t) ≡ Ok (time_bits t)
 reader-returns-t = runs.reader-returns-t
 
 -- an output at least as long as the text to be written for an accepted text
@@ -60,7 +60,7 @@ equal-bytes-exactly-when-one-instant = runs.equal-bytes-exactly-when-one-instant
 
 -- "each rewrites to the one written text for its instant": with number 0, that instant and the text's length
 pub rewrites-to-the-text : (zone text : List ℕ) (a : AcceptedText zone text) (out : List ℕ) → Enough a out
-    → ((rewrite_outcome zone text out).reply ≡ Text (time_bits a.t) (length (iso_text a.t)))
+    → ((rewrite_outcome zone text out).reply ≡ text_reply (time_bits a.t) (length (iso_text a.t)))
     × (run_of (rewrite_outcome zone text out) ≡ iso_text a.t)
 rewrites-to-the-text = runs.rewrites-to-the-text
 

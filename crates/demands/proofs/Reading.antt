@@ -15,17 +15,17 @@ use Rattle.zone.specs.Zone.{Accepted, accepts, records}
 use Rattle.zone.proofs.Rule.{accepts-sound, accepts-complete}
 use Rattle.parser.specs.declared.Fault.{Fault}
 use Rattle.parser.specs.declared.Fault.TheVariants.{Short, Bad, Range, Trailing}
-use Rattle.answer.specs.Answer.{answer_of, refusal_number, time_bits}
-use Rattle.answer.specs.declared.Reply.{Reply}
-use Rattle.answer.specs.declared.Reply.TheVariants.{Time}
+use Rattle.answer.specs.Answer.{answer_of_time, refusal_number, time_bits}
+use Rattle.answer.specs.declared.Refusal.{Refusal}
+use Rattle.std.specs.Prelude.{Result, Ok}
 use Rattle.reader.specs.Denotes.{instant_of, Denotes, AcceptedText}
 use Rattle.reader.specs.Outcome.{refusal_of, read_outcome}
 use Rattle.reader.proofs.Answers.{list-refused}
 use Rattle.reader.proofs.Denotation.{Read, instant, turned-back, reading, reads-instant, reads-outside}
 use Rattle.demands.specs.Terms.{read_number, OfText, NoForm, DenotesOutside}
 
-abbrev number_of : Reply → ℕ
-number_of r = (answer_of r).number
+abbrev number_of : Result ℕ Refusal → ℕ
+number_of r = (answer_of_time r).number
 
 -- the rows 5 to 8
 fault-number : (f : Fault) → OfText (refusal_number (refusal_of f))
@@ -44,7 +44,7 @@ module _ (zone text : List ℕ) where
 
   module _ (a : Accepted zone) where
     -- an instant in the range, or outside it
-    pub inside-answer : (t : ℤ) → Denotes zone text t → InRange t → read_outcome zone text ≡ Time (time_bits t)
+    pub inside-answer : (t : ℤ) → Denotes zone text t → InRange t → read_outcome zone text ≡ Ok (time_bits t)
     inside-answer t d h = (reads-instant zone text a t h).1 d
 
     outside-number : DenotesOutside zone text → read_number zone text ≡ 9
@@ -69,7 +69,7 @@ module _ (zone text : List ℕ) where
     by-reading : Read zone text a → Answer
     by-reading (instant t d) = by-instant t d
     by-reading (turned-back f e) =
-        let k : OfText (read_number zone text) = subst (λ (r : Reply). OfText (number_of r)) (sym e) (fault-number f) in
+        let k : OfText (read_number zone text) = subst (λ (r : Result ℕ Refusal). OfText (number_of r)) (sym e) (fault-number f) in
         no-form a (λ g w. written-number g w k) k
 
   answer : Answer

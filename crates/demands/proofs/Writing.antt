@@ -5,6 +5,7 @@ use mathlib.Core.List.{List}
 use Prim.Native.Nat.{ℕ}
 use lib.IntN.{ℤ}
 use lib.Ieee.{Float, nan, binary64, of_bits, of_int}
+use Rattle.std.specs.Prelude.{Option, Some}
 use Rattle.ecma262.specs.Date.{InRange}
 use Rattle.ecma262.specs.Texts.{iso_text, utc_text, invalid_date}
 use Rattle.float.specs.Whole.{IsWhole, trunc_z}
@@ -22,20 +23,20 @@ use Rattle.writer.specs.Writer.{iso_case, iso_outcome, utc_case, utc_outcome, to
 use Rattle.writer.proofs.Outcomes.{iso-writes, utc-writes, local-writes, iso-nan, utc-nan, local-nan}
 
 -- ---- any bits of a whole number of the range are taken for its f64, and any of NaN for NaN
-taken-for : (time : ℕ) (t : ℤ) → IsWhole (of_bits binary64 time) t → InRange t → time_value_of time ≡ Time (of_int binary64 t)
+taken-for : (time : ℕ) (t : ℤ) → IsWhole (of_bits binary64 time) t → InRange t → time_value_of time ≡ Some (Time (of_int binary64 t))
 taken-for time t w r = go (judge time)
   where
-    go : Judged time → time_value_of time ≡ Time (of_int binary64 t)
-    go (is-time u q k) = q ∙ ap Time (k.number ∙ ap (of_int binary64) (number-unique k.value w))
+    go : Judged time → time_value_of time ≡ Some (Time (of_int binary64 t))
+    go (is-time u q k) = q ∙ ap (λ (x : Float). Some (Time x)) (k.number ∙ ap (of_int binary64) (number-unique k.value w))
     go (is-nan q k) = absurd (subst (λ (x : Float). IsWhole x t) k w).value
     go (is-refused q j k) =
         let e : t ≡ trunc_z (of_bits binary64 time) = sym (trunc_z-whole w) in
         absurd (k (record { whole = subst (IsWhole _) e w; range = subst InRange e r }))
 
-taken-for-nan : (time : ℕ) → of_bits binary64 time ≡ nan → time_value_of time ≡ Nan
+taken-for-nan : (time : ℕ) → of_bits binary64 time ≡ nan → time_value_of time ≡ Some Nan
 taken-for-nan time e = go (judge time)
   where
-    go : Judged time → time_value_of time ≡ Nan
+    go : Judged time → time_value_of time ≡ Some Nan
     go (is-time u q k) = absurd (subst (λ (x : Float). IsWhole x (trunc_z u)) e k.value).value
     go (is-nan q k) = q
     go (is-refused q j k) = absurd (j e)
@@ -47,11 +48,11 @@ module _ (time : ℕ) (t : ℤ) (w : IsWhole (of_bits binary64 time) t) (r : InR
 
   pub iso-any : iso_outcome time out ≡ written (time_bits t) (iso_text t) out
   unfolding iso_outcome
-  iso-any = ap (λ (g : Given). iso_case g out) same-time ∙ iso-writes t r out
+  iso-any = ap (λ (g : Option Given). iso_case g out) same-time ∙ iso-writes t r out
 
   pub utc-any : utc_outcome time out ≡ written (time_bits t) (utc_text t) out
   unfolding utc_outcome
-  utc-any = ap (λ (g : Given). utc_case g out) same-time ∙ utc-writes t r out
+  utc-any = ap (λ (g : Option Given). utc_case g out) same-time ∙ utc-writes t r out
 
   pub local-any : (zone : List ℕ) → Accepted zone → local_outcome zone time out ≡ written (time_bits t) (to_date_string (records zone) t) out
   unfolding local_outcome

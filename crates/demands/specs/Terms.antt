@@ -9,7 +9,7 @@ use Rattle.calendar.specs.Calendar.{day_f, time_within_day_f, days_in_year_f, da
 use Rattle.make.specs.Make.{time_value}
 use Rattle.zone.specs.Zone.{records}
 use Rattle.local.specs.Local.{offset_of_suffix}
-use Rattle.answer.specs.Answer.{answer_of}
+use Rattle.answer.specs.Answer.{answer_of_time}
 use Rattle.new_date.specs.Calls.{Call}
 use Rattle.new_date.specs.Standard.{argument_z, new_date_z, shift_out_z}
 use Rattle.reader.specs.Denotes.{Denotes}
@@ -53,7 +53,7 @@ steps_from call local zone t fields = time_value (time_clip (shift_out_z local (
 
 -- the number that it answers
 abbrev pub read_number : List ℕ → List ℕ → ℕ
-read_number zone text = (answer_of (read_outcome zone text)).number
+read_number zone text = (answer_of_time (read_outcome zone text)).number
 
 -- a number of the rows "text", 5 to 8
 abbrev pub OfText : ℕ → Type 0

@@ -1,23 +1,28 @@
 -- The map's ones, and the places of the fields: the ones below a bit and those from it on are all of them, so the field of a bit that stands
 -- lies within a record of the right length. Assumes nothing.
-use mathlib.Core.Path.{◌≡◌, sym, ap, ◌∙◌, subst}
-use mathlib.Core.Bool.{true, false}
+use mathlib.Core.Path.{◌≡◌, refl, sym, ap, ◌∙◌, subst}
+use mathlib.Core.Bool.{Bool, true, false, not, cond}
 use mathlib.Core.List.{List}
 use Prim.Native.Nat.{ℕ, ◌+◌, ◌*◌, ◌/◌, ◌%◌, ◌^◌, ◌≤◌, ◌<◌}
 use native.Mathlib.Nat.{mod-lt, div-add-mod', mod-one, pow-suc, div-div-eq-div-mul, le-div_iff_mul-le, div-lt_iff_lt-mul, one-mul}
 use native.Mathlib.Numerals.{add-one}
 use native.Mathlib.Omega.{arith}
-use borrow.Author.Tests.{eqb-true, eq-eqb, ne_eqb, le-leb, lt-leb}
+use borrow.Author.Tests.{eqb-true, eqb-false, eq-eqb, ne_eqb, le-leb, lt-leb}
 use lib.Count.{ones, ones_step, ones_cat, ones-le}
-use lib.Dec.{leb}
+use lib.Dec.{eqb, leb}
 use lib.Pow.{pow_pos}
 use lib.ListN.{length}
 use lib.Ieee.{Float}
+use Rattle.std.specs.Prelude.{Option, Some, None, unwrap_or}
+use Rattle.field_record.specs.Inner.{given}
 use Rattle.field_record.specs.FieldRecord.{map_of, stands, has_length, has_other_bit, place_of, field_at, field_or}
 
 pub right-length : (bytes : List ℕ) → has_length bytes ≡ true → length bytes ≡ 1 + 8 * ones (map_of bytes)
 unfolding has_length
 right-length bytes h = eqb-true (length bytes) (1 + 8 * ones (map_of bytes)) h
+
+pub not-empty : (bytes : List ℕ) → has_length bytes ≡ true → 0 < length bytes
+not-empty bytes h = omega (arith, right-length bytes h)
 
 -- ---- the ones of a map
 pub ones_split : (map i : ℕ) → ones map ≡ ones (map / 2 ^ i) + ones (map % 2 ^ i)
@@ -48,47 +53,32 @@ unfolding place_of ones
 first-place bytes = ap (λ (n : ℕ). 1 + 8 * ones n) (mod-one (map_of bytes))
 
 module _ (bytes : List ℕ) (i : ℕ) where
-  pub place-absent : map_of bytes / 2 ^ i % 2 ≡ 0 → place_of bytes (i + 1) ≡ place_of bytes i
+  pub place-small : place_of bytes i ≤ 1 + 8 * i
   unfolding place_of
-  place-absent h = omega (arith, ones-next (map_of bytes) i)
+  place-small = omega (arith, ones-le i (map_of bytes % 2 ^ i) (mod-lt (map_of bytes) (pow_pos i)))
 
-  pub place-given : map_of bytes / 2 ^ i % 2 ≡ 1 → place_of bytes (i + 1) ≡ place_of bytes i + 8
+  pub place-absent : stands bytes i ≡ false → place_of bytes (i + 1) ≡ place_of bytes i
   unfolding place_of
-  place-given h = omega (arith, ones-next (map_of bytes) i)
+  place-absent h = omega (arith, ones-next (map_of bytes) i, eqb-false (map_of bytes / 2 ^ i % 2) 1 h)
 
-  pub place-room : has_length bytes ≡ true → map_of bytes / 2 ^ i % 2 ≡ 1 → place_of bytes i + 8 ≤ length bytes
+  pub place-given : stands bytes i ≡ true → place_of bytes (i + 1) ≡ place_of bytes i + 8
   unfolding place_of
-  place-room f h = omega (arith, ones-own (map_of bytes) i h, right-length bytes f)
+  place-given h = omega (arith, ones-next (map_of bytes) i, eqb-true (map_of bytes / 2 ^ i % 2) 1 h)
 
-  pub bit-absent : map_of bytes / 2 ^ i % 2 ≡ 0 → stands bytes i ≡ false
-  bit-absent h = ne_eqb (map_of bytes / 2 ^ i % 2) 1 (λ e. omega arith)
+  pub place-room : has_length bytes ≡ true → stands bytes i ≡ true → place_of bytes i + 8 ≤ length bytes
+  unfolding place_of
+  place-room f h = omega (arith, ones-own (map_of bytes) i (eqb-true (map_of bytes / 2 ^ i % 2) 1 h), right-length bytes f)
 
-  pub bit-given : map_of bytes / 2 ^ i % 2 ≡ 1 → stands bytes i ≡ true
-  bit-given h = eq-eqb (map_of bytes / 2 ^ i % 2) 1 h
+  -- with a value for an absent one, what a call takes the field to be
+  pub given_or : (absent : Float) → unwrap_or (given bytes i) absent ≡ field_or bytes i absent
+  unfolding given field_or
+  given_or absent = elim (stands bytes i) as (λ b. unwrap_or (cond b (Some (field_at bytes i)) None) absent ≡ cond b (field_at bytes i) absent) [ true ↦ refl | false ↦ refl ]
 
-  module _ (absent : Float) where
-    pub field-absent : map_of bytes / 2 ^ i % 2 ≡ 0 → field_or bytes i absent ≡ absent
-    unfolding field_or
-    field-absent h = rw (bit-absent h)
-
-    pub field-given : map_of bytes / 2 ^ i % 2 ≡ 1 → field_or bytes i absent ≡ field_at bytes i
-    unfolding field_or
-    field-given h = rw (bit-given h)
-
--- ---- the answers of `has_other_bit` and, for an absent field, of `field_or`
-pub no_bit : (bytes : List ℕ) (bits : ℕ) → map_of bytes / 2 ^ bits ≡ 0 → false ≡ has_other_bit bits bytes
+-- ---- the answer of `has_other_bit`
+pub other_bit : (bytes : List ℕ) (bits : ℕ) → not (eqb (map_of bytes / 2 ^ bits) 0) ≡ has_other_bit bits bytes
 unfolding has_other_bit
-no_bit bytes bits e = sym (no_other (map_of bytes) bits e)
-
-pub some_bit : (bytes : List ℕ) (bits : ℕ) → (map_of bytes / 2 ^ bits ≡ 0 → ⊥) → true ≡ has_other_bit bits bytes
-unfolding has_other_bit
-some_bit bytes bits h = sym (some-other (map_of bytes) bits h)
-
-pub not_given : (bytes : List ℕ) (i : ℕ) → map_of bytes / 2 ^ i % 2 ≡ 0 → false ≡ stands bytes i
-not_given bytes i e = sym (bit-absent bytes i e)
-
-pub absent_value : (bytes : List ℕ) (i : ℕ) (absent : Float) → map_of bytes / 2 ^ i % 2 ≡ 0 → absent ≡ field_or bytes i absent
-absent_value bytes i absent e = sym (field-absent bytes i absent e)
-
-pub absent_place : (bytes : List ℕ) (i at : ℕ) → at ≡ place_of bytes i → map_of bytes / 2 ^ i % 2 ≡ 0 → at ≡ place_of bytes (i + 1)
-absent_place bytes i at p e = p ∙ sym (place-absent bytes i e)
+other_bit bytes bits = go (eqb (map_of bytes / 2 ^ bits) 0) refl
+  where
+    go : (b : Bool) → eqb (map_of bytes / 2 ^ bits) 0 ≡ b → not b ≡ leb (2 ^ bits) (map_of bytes)
+    go true e = sym (no_other (map_of bytes) bits (eqb-true _ 0 e))
+    go false e = sym (some-other (map_of bytes) bits (eqb-false _ 0 e))

@@ -16,8 +16,9 @@ use Rattle.zone.specs.Zone.{accepts, records, record_at, is_zone_list, decides, 
 use Rattle.local.specs.Local.{local_time_f, utc_f, offset_seconds_f, asked_second_f}
 use Rattle.timevalue.specs.TimeValue.{time_value_of, is_time}
 use Rattle.field_record.specs.FieldRecord.{has_length, has_other_bit, place_of, field_at, field_or}
-use Rattle.answer.specs.declared.Reply.{Reply}
-use Rattle.answer.specs.Answer.{answer_of}
+use Rattle.answer.specs.declared.Refusal.{Refusal}
+use Rattle.std.specs.Prelude.{Result}
+use Rattle.answer.specs.Answer.{answer_of_time}
 use Rattle.new_date.specs.declared.Part.{Part}
 use Rattle.new_date.specs.declared.Part.TheVariants.{Milliseconds, Seconds, Minutes, Hours, Date, Month, FullYear}
 use Rattle.new_date.specs.Calls.{or_zero, absent, new_date, new_date_of, value_from}
@@ -47,8 +48,8 @@ data Row : Type 0 where
   set : Part → Bool → List ℕ → ℕ → List ℕ → ℕ → ℕ → Row
   built : Bool → List ℕ → List ℕ → ℕ → ℕ → Row
 
-abbrev is : Reply → ℕ → ℕ → Bool
-is r number value = eqb (answer_of r).number number && eqb (answer_of r).value value && eqb (answer_of r).length 0
+abbrev is : Result ℕ Refusal → ℕ → ℕ → Bool
+is r number value = eqb (answer_of_time r).number number && eqb (answer_of_time r).value value && eqb (answer_of_time r).length 0
 
 right : Row → Bool
 right (set first local zone time fields n v) = is (set_outcome first local zone time fields) n v

@@ -23,12 +23,11 @@ use Rattle.timevalue.proofs.Laws.{Judged, is-time, is-nan, is-refused, judge}
 use Rattle.field_record.specs.FieldRecord.{stands, has_length, has_other_bit, field_at}
 use Rattle.answer.specs.declared.Refusal.{Refusal}
 use Rattle.answer.specs.declared.Refusal.TheVariants as fault
-use Rattle.answer.specs.declared.Reply.{Reply}
-use Rattle.answer.specs.declared.Reply.TheVariants as reply
+use Rattle.std.specs.Prelude.{Option, Some, None, IsSome, Result, Err}
 use Rattle.new_date.specs.declared.Part.{Part}
 use Rattle.new_date.specs.declared.Part.TheVariants.{FullYear}
 use Rattle.new_date.specs.Calls.{build, set, bits_of, absent, new_date, new_date_of, value_from}
-use Rattle.fields.specs.Outcome.{start_of, value_of, refuse, is_refused, zone_row, time_row, record_rows, time_reply, build_outcome, set_outcome}
+use Rattle.fields.specs.Outcome.{start_of, value_of, taken, refuse, zone_row, time_row, record_rows, time_reply, build_outcome, set_outcome}
 use Rattle.new_date.specs.Standard.{shift_in_z, value_from_z, Exact, Passes}
 use Rattle.fields.proofs.Rows.{start-whole}
 use Rattle.new_date.proofs.Exact.{value-exact}
@@ -40,9 +39,9 @@ list-row false zone l = refl
 list-row true zone l = ap not (accepts-complete zone (l refl))
 
 module _ (first : Part) (local : Bool) (zone fields : List ℕ) (p : Passes (set first) local zone fields) where
-  pub set_value : (time : ℕ) (v : TimeValue) → time_value_of time ≡ v → is_refused v ≡ false → set_outcome first local zone time fields ≡ time_reply (value_of first local (records zone) v fields)
+  pub set_value : (time : ℕ) (v : TimeValue) → time_value_of time ≡ Some v → set_outcome first local zone time fields ≡ time_reply (value_of first local (records zone) v fields)
   unfolding set_outcome
-  set_value time v e r = rw (list-row local zone p.list, e, r, p.filled, p.known)
+  set_value time v e = rw (list-row local zone p.list, e, p.filled, p.known)
 
   -- THE LAW of a setter: the date is the whole number z, by any bits of it
   pub set-exact : (time : ℕ) (z : ℤ) → IsWhole (of_bits binary64 time) z → InRange z → Exact (set first) (shift_in_z local (records zone) z) fields
@@ -54,26 +53,30 @@ module _ (first : Part) (local : Bool) (zone fields : List ℕ) (p : Passes (set
       go (is-time t q k) =
           let same : trunc_z t ≡ z = number-unique k.value w in
           let s = start-whole local (records zone) (λ l. (p.list l).rule) (subst (IsWhole t) same k.time.whole) r in
-          set_value time (given.Time t) q refl ∙ ap time_reply (value-exact s.0 s.1 (set first) local (records zone) (λ l. (p.list l).rule) fields e)
+          set_value time (given.Time t) q ∙ ap time_reply (value-exact s.0 s.1 (set first) local (records zone) (λ l. (p.list l).rule) fields e)
       go (is-nan q k) = absurd (subst (λ (x : Float). IsWhole x z) k w).value
       go (is-refused q j k) = absurd (k (record { whole = subst (IsWhole _) (sym (trunc_z-whole w)) w; range = subst InRange (sym (trunc_z-whole w)) r }))
 
   -- a field that is not finite gives NaN, whatever the date
-  nan-anyway : (time : ℕ) → ((t : Float) → value_from (set first) local (records zone) t fields ≡ nan) → is_refused (time_value_of time) ≡ false → set_outcome first local zone time fields ≡ time_reply nan
-  nan-anyway time f r = set_value time (time_value_of time) refl r ∙ ap time_reply (f _)
+  nan-anyway : (time : ℕ) → ((t : Float) → value_from (set first) local (records zone) t fields ≡ nan) → IsSome (time_value_of time) → set_outcome first local zone time fields ≡ time_reply nan
+  nan-anyway time f r = go (time_value_of time) refl r
+    where
+      go : (o : Option TimeValue) → time_value_of time ≡ o → IsSome o → set_outcome first local zone time fields ≡ time_reply nan
+      go (Some v) e s = set_value time v e ∙ ap time_reply (f _)
+      go None e s = cc
 
-  pub set-field-nan : (time : ℕ) (i : ℕ) → is_refused (time_value_of time) ≡ false → i < bits_of (set first) → stands fields i ≡ true → finite (field_at fields i) ≡ false
+  pub set-field-nan : (time : ℕ) (i : ℕ) → IsSome (time_value_of time) → i < bits_of (set first) → stands fields i ≡ true → finite (field_at fields i) ≡ false
       → set_outcome first local zone time fields ≡ time_reply nan
   set-field-nan time i r h s e = nan-anyway time (λ t. given-nan (set first) local (records zone) t fields i h s e) r
 
-  pub set-first-nan : (time : ℕ) → is_refused (time_value_of time) ≡ false → stands fields 0 ≡ false → set_outcome first local zone time fields ≡ time_reply nan
+  pub set-first-nan : (time : ℕ) → IsSome (time_value_of time) → stands fields 0 ≡ false → set_outcome first local zone time fields ≡ time_reply nan
   set-first-nan time r s = nan-anyway time (λ t. first-nan (set first) local (records zone) t fields s) r
 
 -- ---- a NaN date: "Every setter but `set_full_year` gives NaN for NaN; that one starts from 0, with no local shift."
-nan-time : (time : ℕ) → of_bits binary64 time ≡ nan → time_value_of time ≡ given.Nan
+nan-time : (time : ℕ) → of_bits binary64 time ≡ nan → time_value_of time ≡ Some given.Nan
 nan-time time e = go (judge time)
   where
-    go : Judged time → time_value_of time ≡ given.Nan
+    go : Judged time → time_value_of time ≡ Some given.Nan
     go (is-time t q k) = absurd (subst (λ (x : Float). IsWhole x (trunc_z t)) e k.value).value
     go (is-nan q k) = q
     go (is-refused q j k) = absurd (j e)
@@ -82,14 +85,14 @@ pub set-year-of-nan : (local : Bool) (zone fields : List ℕ) → Passes (set Fu
     → set_outcome FullYear local zone time fields ≡ time_reply (time_value (value_from_z (set FullYear) local (records zone) (pos 0) fields))
 unfolding start_of
 set-year-of-nan local zone fields p time n e =
-    set_value FullYear local zone fields p time given.Nan (nan-time time n) refl
+    set_value FullYear local zone fields p time given.Nan (nan-time time n)
     ∙ ap time_reply (year-of-nan local (records zone) fields ∙ value-exact (num-whole 0 (lit≤ tt)) (lit≤ tt) (set FullYear) local (records zone) (λ l. (p.list l).rule) fields e)
 
 pub set-of-nan : (first : Part) (local : Bool) (zone fields : List ℕ) → Passes (set first) local zone fields → (time : ℕ) → of_bits binary64 time ≡ nan → (first ≡ FullYear → ⊥)
     → set_outcome first local zone time fields ≡ time_reply nan
 unfolding start_of
 set-of-nan first local zone fields p time n other =
-    set_value first local zone fields p time given.Nan (nan-time time n) refl ∙ ap time_reply (nan-date first local (records zone) fields other)
+    set_value first local zone fields p time given.Nan (nan-time time n) ∙ ap time_reply (nan-date first local (records zone) fields other)
 
 -- ---- the builder
 module _ (local : Bool) (zone fields : List ℕ) (p : Passes build local zone fields) where
@@ -112,48 +115,51 @@ module _ (local : Bool) (zone fields : List ℕ) (p : Passes build local zone fi
   build-first-nan s = build-value ∙ ap time_reply (first-nan build local (records zone) nan fields s)
 
 -- ---- every answer: a refusal, or the bits of a time value
-pub data IsAnswer : Reply → Type 0 where
+pub data IsAnswer : Result ℕ Refusal → Type 0 where
   a-time : (x : Float) → IsTimeValue x → IsAnswer (time_reply x)
-  a-refusal : (f : Refusal) → IsAnswer (reply.Refused f)
+  a-refusal : (f : Refusal) → IsAnswer (Err f)
 
-refuse-answer : (b : Bool) (f : Refusal) (r : Reply) → IsAnswer r → IsAnswer (cond b (reply.Refused f) r)
+refuse-answer : (b : Bool) (f : Refusal) (r : Result ℕ Refusal) → IsAnswer r → IsAnswer (cond b (Err f) r)
 refuse-answer true f r a = a-refusal f
 refuse-answer false f r a = a
 
-zone-answer : (local : Bool) (zone : List ℕ) (r : Reply) → IsAnswer r → IsAnswer (zone_row reply.Refused local zone r)
+zone-answer : (local : Bool) (zone : List ℕ) (r : Result ℕ Refusal) → IsAnswer r → IsAnswer (zone_row local zone r)
 zone-answer local zone r a = refuse-answer (local && not (accepts zone)) fault.ZoneList r a
 
-time-answer : (time : ℕ) (r : Reply) → IsAnswer r → IsAnswer (time_row reply.Refused time r)
-time-answer time r a = refuse-answer (is_refused (time_value_of time)) fault.TimeValue r a
+time-answer : (o : Option TimeValue) (r : TimeValue → Result ℕ Refusal) → ((v : TimeValue) → IsAnswer (r v)) → IsAnswer (taken o r)
+time-answer (Some v) r a = a v
+time-answer None r a = a-refusal fault.TimeValue
 
-record-answer : (bits : ℕ) (fields : List ℕ) (r : Reply) → IsAnswer r → IsAnswer (record_rows reply.Refused bits fields r)
+record-answer : (bits : ℕ) (fields : List ℕ) (r : Result ℕ Refusal) → IsAnswer r → IsAnswer (record_rows bits fields r)
 record-answer bits fields r a =
-    refuse-answer (not (has_length fields)) fault.RecordLength (refuse reply.Refused (has_other_bit bits fields) fault.RecordMap r)
+    refuse-answer (not (has_length fields)) fault.RecordLength (refuse (has_other_bit bits fields) fault.RecordMap r)
     (refuse-answer (has_other_bit bits fields) fault.RecordMap r a)
 
 pub set-answer : (first : Part) (local : Bool) (zone : List ℕ) (time : ℕ) (fields : List ℕ) → IsAnswer (set_outcome first local zone time fields)
 unfolding set_outcome
 set-answer first local zone time fields =
-    let r = time_reply (value_of first local (records zone) (time_value_of time) fields) in
-    let rows = record_rows reply.Refused (bits_of (set first)) fields r in
-    zone-answer local zone (time_row reply.Refused time rows) (time-answer time rows (record-answer (bits_of (set first)) fields r (a-time _ (from-time-value (set first) local (records zone) _ fields))))
+    let r = λ (v : TimeValue). time_reply (value_of first local (records zone) v fields) in
+    let rows = λ (v : TimeValue). record_rows (bits_of (set first)) fields (r v) in
+    zone-answer local zone (time_row time rows)
+    (time-answer (time_value_of time) rows (λ v. record-answer (bits_of (set first)) fields (r v) (a-time _ (from-time-value (set first) local (records zone) _ fields))))
 
 pub build-answer : (local : Bool) (zone fields : List ℕ) → IsAnswer (build_outcome local zone fields)
 unfolding build_outcome
 build-answer local zone fields =
     let r = time_reply (value_from build local (records zone) nan fields) in
-    zone-answer local zone (record_rows reply.Refused 7 fields r) (record-answer 7 fields r (a-time _ (from-time-value build local (records zone) nan fields)))
+    zone-answer local zone (record_rows 7 fields r) (record-answer 7 fields r (a-time _ (from-time-value build local (records zone) nan fields)))
 
 -- ---- "the public UTC calls take none": what is handed over for a zone list does not matter
 same_start : (one other : List Record) (v : TimeValue) → start_of false one v ≡ start_of false other v
 unfolding start_of
 same_start one other (given.Time t) = refl
 same_start one other given.Nan = refl
-same_start one other given.Refused = refl
 
 pub set-utc : (first : Part) (zone : List ℕ) (time : ℕ) (fields : List ℕ) → set_outcome first false zone time fields ≡ set_outcome first false [] time fields
 unfolding set_outcome value_from
-set-utc first zone time fields = rw (same_start (records zone) (records []) (time_value_of time))
+set-utc first zone time fields =
+    ap (λ (start : TimeValue → Float). time_row time (λ v. record_rows (bits_of (set first)) fields (time_reply (value_from (set first) false [] (start v) fields))))
+    (λ i v. same_start (records zone) (records []) v i)
 
 pub build-utc : (zone fields : List ℕ) → build_outcome false zone fields ≡ build_outcome false [] fields
 unfolding build_outcome value_from

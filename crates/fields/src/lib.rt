@@ -1,66 +1,62 @@
-// The field builder and the setters of builtins/date/mod.rs, on a time value's bits, a zone list and a field record. Where `local` is false the call
-// is a UTC call: it has no zone list, and whatever is handed over for one is not looked at. Each contract is one definition for any bits and any bytes
-// (specs/Outcome.antt); that it is the standard's own steps in the exact domain is in proofs/Outcomes.antt.
+// The field builder and the setters of builtins/date/mod.rs, on a time value's bits, a zone list and a field record. A local call has a zone list,
+// and a UTC call none. Each contract is one definition for any bits and any bytes (specs/Outcome.antt); that it is the standard's own steps in the
+// exact domain is in proofs/Outcomes.antt.
 #![tactic(auto)]
 
-ghost use Rattle.std.specs.Prelude.{◌≡◌, true, not, ◌&&◌};
-ghost use Rattle.zone.specs.Zone.{records, Accepted, accepts};
+ghost use Rattle.std.specs.Prelude.{◌≡◌, ◌<◌, ℕ, is_some, IfOk, Result};
+ghost use Rattle.zone.specs.Zone.{records};
+ghost use Rattle.answer.specs.declared.Refusal.{Refusal};
 ghost use Rattle.new_date.specs.Calls.{set, bits_of, shift_in};
-ghost use Rattle.fields.specs.Outcome.{is_refused, start_of, build_outcome, set_outcome};
+ghost use Rattle.new_date.specs.Inner.{list_bytes};
+ghost use Rattle.fields.specs.Outcome.{start_of, zone_row, record_rows, build_outcome, set_outcome};
+ghost use Rattle.fields.specs.Inner.{zone_bytes, past};
 
-use answer::{Refusal, Reply};
+use answer::Refusal;
+use field_record::FieldRecord;
 use new_date::Part;
 use timevalue::TimeValue;
+use zone::ZoneList;
 
-// ---- row 1
+// ---- the rows of the table. Row 2 is `timevalue`'s.
 
-// Whether bytes are no zone list. By itself, so that a UTC call does not copy the list's place and length for it.
-fn is_no_list(zone: &[u8]) -> bool
-    ensures { result ≡ not (accepts zone.now) }
+// Row 1, of a local call.
+fn list_of<'a>(zone: Option<&'a [u8]>) -> Result<Option<ZoneList<'a>>, Refusal>
+    ensures row { (rest : Result ℕ Refusal) → zone_row (is_some zone.entry) (zone_bytes zone.entry) rest ≡ past result rest }
+    ensures same { IfOk result (λ list. (is_some list ≡ is_some zone.entry) × (list_bytes list ≡ zone_bytes zone.entry)) }
 {
-    !zone::accept(zone)
+    let Some(bytes) = zone else {
+        return Ok(None);
+    };
+    let list = ZoneList::accept(bytes).ok_or(Refusal::ZoneList)?;
+    Ok(Some(list))
 }
 
-// Whether a call's zone list is turned back: refusal 1. A UTC call takes none.
-fn is_list_refused(local: bool, zone: &[u8]) -> bool
-    ensures { result ≡ (local && not (accepts zone.now)) }
+// Rows 3 and 4, of a call that has so many bits.
+fn record_of<'a>(fields: &'a [u8], bits: u32) -> Result<FieldRecord<'a>, Refusal>
+    requires { bits < 8 }
+    ensures rows { (rest : Result ℕ Refusal) → record_rows bits fields.now rest ≡ past result rest }
+    ensures same { IfOk result (λ made. made.bytes.now ≡ fields.now) }
 {
-    if local {
-        return is_no_list(zone);
+    let made = FieldRecord::new(fields).ok_or(Refusal::RecordLength)?;
+    if made.has_other_bit(bits) {
+        return Err(Refusal::RecordMap);
     }
-    false
+    Ok(made)
 }
 
 // ---- the builder
 
 // Date.UTC, and the constructor of many fields
-pub fn build(local: bool, zone: &[u8], fields: &[u8]) -> Reply
-    ensures { result ≡ build_outcome local zone.now fields.now }
+#[tactic(auto, unfolding(crate::specs::Outcome::build_outcome, new_date::specs::Calls::value_from))]
+pub fn build(zone: Option<&[u8]>, fields: &[u8]) -> Result<u64, Refusal>
+    ensures { result ≡ build_outcome (is_some zone.entry) (zone_bytes zone.entry) fields.now }
 {
-    if is_list_refused(local, zone) {
-        return Reply::Refused(Refusal::ZoneList);
-    }
-    if !field_record::has_length(fields) {
-        return Reply::Refused(Refusal::RecordLength);
-    }
-    if field_record::has_other_bit(fields, 7) {
-        return Reply::Refused(Refusal::RecordMap);
-    }
-    Reply::Time(new_date::value_of(local, zone, new_date::built(fields)))
+    let list = list_of(zone)?;
+    let arguments = record_of(fields, 7)?;
+    Ok(new_date::value_of(list, new_date::built(arguments)))
 }
 
 // ---- the setters
-
-// Whether a time's bits are turned back: refusal 2.
-fn is_refused(date: TimeValue) -> bool
-    ensures { result ≡ is_refused date }
-{
-    match date {
-        TimeValue::Time(_) => false,
-        TimeValue::Nan => false,
-        TimeValue::Refused => true,
-    }
-}
 
 // How many arguments a setter has.
 fn bits_of(first: Part) -> u32
@@ -78,45 +74,34 @@ fn bits_of(first: Part) -> u32
 }
 
 // t, set to LocalTime(t) where the call is local.
-fn shift_in(local: bool, zone: &[u8], t: f64) -> f64
-    requires { local ≡ true → Accepted zone.now }
-    ensures { result ≡ shift_in local (records zone.now) t }
+fn shift_in(zone: Option<ZoneList>, t: f64) -> f64
+    ensures { result ≡ shift_in (is_some zone.entry) (records (list_bytes zone.entry)) t }
 {
-    if local {
-        return local::local_time(t, zone);
+    match zone {
+        Some(list) => local::local_time(t, list),
+        None => t,
     }
-    t
 }
 
 // Where a setter starts. Of a NaN date the setters' own operations give NaN, but for the year's.
-fn start_of(local: bool, zone: &[u8], date: TimeValue) -> f64
-    requires { local ≡ true → Accepted zone.now }
-    ensures { result ≡ start_of local (records zone.now) date }
+#[tactic(auto, using(new_date::proofs::Literals::not_a_number), unfolding(crate::specs::Outcome::start_of))]
+fn start_of(zone: Option<ZoneList>, date: TimeValue) -> f64
+    ensures { result ≡ start_of (is_some zone.entry) (records (list_bytes zone.entry)) date }
 {
     match date {
-        TimeValue::Time(t) => shift_in(local, zone, t),
-        TimeValue::Nan => 0.0 / 0.0,
-        TimeValue::Refused => 0.0 / 0.0,
+        TimeValue::Time(t) => shift_in(zone, t),
+        TimeValue::Nan => f64::NAN,
     }
 }
 
 // The setter that is named after this part: Date.prototype.setHours and setUTCHours for `Part::Hours`, and so on.
-pub fn set(first: Part, local: bool, zone: &[u8], time: u64, fields: &[u8]) -> Reply
-    ensures { result ≡ set_outcome first local zone.now time fields.now }
+#[tactic(auto, unfolding(crate::specs::Outcome::set_outcome, new_date::specs::Calls::value_from))]
+pub fn set(first: Part, zone: Option<&[u8]>, time: u64, fields: &[u8]) -> Result<u64, Refusal>
+    ensures { result ≡ set_outcome first (is_some zone.entry) (zone_bytes zone.entry) time fields.now }
 {
-    if is_list_refused(local, zone) {
-        return Reply::Refused(Refusal::ZoneList);
-    }
-    let date = timevalue::time_value(time);
-    if is_refused(date) {
-        return Reply::Refused(Refusal::TimeValue);
-    }
-    let t = start_of(local, zone, date);
-    if !field_record::has_length(fields) {
-        return Reply::Refused(Refusal::RecordLength);
-    }
-    if field_record::has_other_bit(fields, bits_of(first)) {
-        return Reply::Refused(Refusal::RecordMap);
-    }
-    Reply::Time(new_date::value_of(local, zone, new_date::set(first, t, fields)))
+    let list = list_of(zone)?;
+    let date = timevalue::time_value(time).ok_or(Refusal::TimeValue)?;
+    let t = start_of(list, date);
+    let arguments = record_of(fields, bits_of(first))?;
+    Ok(new_date::value_of(list, new_date::set(first, t, arguments)))
 }

@@ -4,7 +4,7 @@
 use Rattle.std.specs.Prelude.{Bool, true, false, ◌&&◌, List, [], ◌∷◌, ◌++◌, ℕ, eqb, ℤ, pos, neg_ℤ, length, drop, replicate}
 use Prim.Native.String.{String}
 use Rattle.ecma262.specs.Texts.{ascii}
-use Rattle.answer.specs.Answer.{answer_of, nan_value, time_bits}
+use Rattle.answer.specs.Answer.{answer_of, answer_of_time, nan_value, time_bits}
 use Rattle.answer.specs.declared.Answer.{Answer}
 use Rattle.reader.specs.Outcome.{read_outcome}
 use Rattle.writer.specs.Outcome.{Outcome}
@@ -91,13 +91,13 @@ abbrev writes : Outcome → ℤ → String → Bool
 writes o t text = same_outcome o (success t (length (ascii text))) (ascii text ++ drop (length (ascii text)) lent)
 
 unfoldable pub right : Row → Bool
-right (refused text n) = same_answer (answer_of (read_outcome utc_list (ascii text))) (refusal n) && same_outcome (rewrite_outcome utc_list (ascii text) lent) (refusal n) lent
-right (reads text t written) = same_answer (answer_of (read_outcome utc_list (ascii text))) (success t 0) && writes (rewrite_outcome utc_list (ascii text) lent) t written
+right (refused text n) = same_answer (answer_of_time (read_outcome utc_list (ascii text))) (refusal n) && same_outcome (rewrite_outcome utc_list (ascii text) lent) (refusal n) lent
+right (reads text t written) = same_answer (answer_of_time (read_outcome utc_list (ascii text))) (success t 0) && writes (rewrite_outcome utc_list (ascii text) lent) t written
 right (iso_of t text) = writes (iso_outcome (time_bits t) lent) t text
 right (utc_of t text) = writes (utc_outcome (time_bits t) lent) t text
 right (local_of zone t text) = writes (local_outcome zone (time_bits t) lent) t text
 right (set first time fields t) =
-    same_answer (answer_of (set_outcome first false [] time fields)) (success t 0) && same_answer (answer_of (set_outcome first true utc_list time fields)) (success t 0)
+    same_answer (answer_of_time (set_outcome first false [] time fields)) (success t 0) && same_answer (answer_of_time (set_outcome first true utc_list time fields)) (success t 0)
 
 unfoldable pub all_right : List Row → Bool
 all_right [] = true

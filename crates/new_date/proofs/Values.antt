@@ -9,6 +9,7 @@ use lib.ListN.{get_or}
 use lib.Ieee.{Float, nan, inf, fin, binary64, fits, add, sub, mul, div, rem, le, lt, of_int, is_nan}
 use lib.Ieee.Fits.{cond-fits, nan-fits, add-fits, sub-fits}
 use lib.Ieee.Scale.{finite}
+use Rattle.std.specs.Float.{float_is_finite}
 use Rattle.float.specs.Rounding.{floor_f, rem_euclid_f, to_integer_or_infinity}
 use Rattle.calendar.specs.Calendar.{num, day_f, time_within_day_f}
 use Rattle.make.specs.Make.{make_time_f, make_day_f, make_date_f, make_full_year_f, full_year, if_finite, time_clip_f, IsTimeValue}
@@ -16,7 +17,7 @@ use Rattle.make.proofs.Tests.{hour-not-finite, minute-not-finite, second-not-fin
 use Rattle.make.proofs.Clip.{clip-time-value}
 use Rattle.zone.specs.Zone.{Record}
 use Rattle.local.specs.Local.{shift_f, utc_f}
-use Rattle.local.proofs.Tests.{utc-not-finite}
+use Rattle.local.proofs.Tests.{utc_not_finite}
 use Rattle.field_record.specs.FieldRecord.{stands, field_at, field_or}
 use Rattle.new_date.specs.Calls.{Call, build, set, bits_of, present, or_zero, shift_out, absent, argument, new_date, new_date_of, value_from}
 use Rattle.new_date.specs.declared.Part.{Part}
@@ -100,8 +101,9 @@ clip-nan : time_clip_f nan ≡ nan
 clip-nan = clip-not-finite nan refl
 
 out-nan : (local : Bool) (list : List Record) → shift_out local list nan ≡ nan
+unfolding float_is_finite
 out-nan false list = refl
-out-nan true list = utc-not-finite list nan refl
+out-nan true list = utc_not_finite list nan refl
 
 -- a NaN or infinite field gives NaN
 pub argument-nan : (call : Call) (local : Bool) (list : List Record) (t : Float) (fields : List ℕ) (i : ℕ) → i < bits_of call → finite (argument call t fields i) ≡ false

@@ -4,6 +4,7 @@ use mathlib.Core.Bool.{Bool, true, false, cond}
 use mathlib.Core.List.{List}
 use Prim.Native.Nat.{ℕ, ◌≤◌, ◌<◌}
 use lib.IntN.{ℤ, nat_abs}
+use Rattle.std.specs.Prelude.{Ok, Err}
 use borrow.Author.Tests.{le-leb, lt-leb}
 use Rattle.ecma262.specs.Date.{time_range}
 use Rattle.ecma262.specs.Format.{Form}
@@ -12,30 +13,29 @@ use Rattle.parser.specs.Reading.{Out, ok, fault, read}
 use Rattle.parser.specs.declared.Fault.{Fault}
 use Rattle.answer.specs.Answer.{time_bits}
 use Rattle.answer.specs.declared.Refusal.TheVariants.{ZoneList, Instant}
-use Rattle.answer.specs.declared.Reply.TheVariants.{Time, Refused}
 use Rattle.reader.specs.Denotes.{instant_of}
 use Rattle.reader.specs.Outcome.{refusal_of, answer_at, reply_for, read_outcome}
 
 module _ (zone text : List ℕ) where
-  pub list-refused : accepts zone ≡ false → Refused ZoneList ≡ read_outcome zone text
+  pub list-refused : accepts zone ≡ false → Err ZoneList ≡ read_outcome zone text
   unfolding read_outcome
-  list-refused e = ap (λ (b : Bool). cond b (reply_for (records zone) (read text)) (Refused ZoneList)) (sym e)
+  list-refused e = ap (λ (b : Bool). cond b (reply_for (records zone) (read text)) (Err ZoneList)) (sym e)
 
   by-reading : (r : Out Form) → accepts zone ≡ true → read text ≡ r → reply_for (records zone) r ≡ read_outcome zone text
   unfolding read_outcome
-  by-reading r e f = ap₂ (λ (b : Bool) (r : Out Form). cond b (reply_for (records zone) r) (Refused ZoneList)) (sym e) (sym f)
+  by-reading r e f = ap₂ (λ (b : Bool) (r : Out Form). cond b (reply_for (records zone) r) (Err ZoneList)) (sym e) (sym f)
 
-  pub text-refused : (f : Fault) → accepts zone ≡ true → read text ≡ fault f → Refused (refusal_of f) ≡ read_outcome zone text
+  pub text-refused : (f : Fault) → accepts zone ≡ true → read text ≡ fault f → Err (refusal_of f) ≡ read_outcome zone text
   text-refused f = by-reading (fault f)
 
   pub text-read : (f : Form) {left : List ℕ} → accepts zone ≡ true → read text ≡ ok f left → answer_at (instant_of (records zone) f) ≡ read_outcome zone text
   text-read f {left} = by-reading (ok f left)
 
 module _ (t : ℤ) where
-  pub answer-beyond : time_range < nat_abs t → Refused Instant ≡ answer_at t
+  pub answer_beyond : time_range < nat_abs t → Err Instant ≡ answer_at t
   unfolding answer_at
-  answer-beyond h = ap (λ (b : Bool). cond b (Time (time_bits t)) (Refused Instant)) (sym (lt-leb (nat_abs t) time_range h))
+  answer_beyond h = ap (λ (b : Bool). cond b (Ok (time_bits t)) (Err Instant)) (sym (lt-leb (nat_abs t) time_range h))
 
-  pub answer-inside : nat_abs t ≤ time_range → Time (time_bits t) ≡ answer_at t
+  pub answer_inside : nat_abs t ≤ time_range → Ok (time_bits t) ≡ answer_at t
   unfolding answer_at
-  answer-inside h = ap (λ (b : Bool). cond b (Time (time_bits t)) (Refused Instant)) (sym (le-leb (nat_abs t) time_range h))
+  answer_inside h = ap (λ (b : Bool). cond b (Ok (time_bits t)) (Err Instant)) (sym (le-leb (nat_abs t) time_range h))

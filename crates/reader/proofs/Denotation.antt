@@ -13,6 +13,7 @@ use lib.Ieee.Bits.{of_bits-to_bits}
 use lib.Ieee.Fits.{of_int-fits}
 use Rattle.ecma262.specs.Date.{time_range, InRange}
 use Rattle.ecma262.specs.Format.{Form}
+use Rattle.std.specs.Prelude.{Ok, Err}
 use Rattle.integers.proofs.Int.{by-test}
 use Rattle.float.specs.Whole.{IsWhole}
 use Rattle.float.proofs.Whole.{of_int-whole}
@@ -24,11 +25,10 @@ use Rattle.parser.specs.declared.Fault.{Fault}
 use Rattle.parser.specs.declared.Fault.TheVariants.{Short, Bad, Range, Trailing}
 use Rattle.parser.proofs.Accepts.{read-printed, printed-read, form-unique}
 use Rattle.answer.specs.Answer.{time_bits}
-use Rattle.answer.specs.declared.Refusal.TheVariants.{ZoneList, Instant}
-use Rattle.answer.specs.declared.Reply.TheVariants.{Time, Refused}
+use Rattle.answer.specs.declared.Refusal.TheVariants.{Instant}
 use Rattle.reader.specs.Denotes.{instant_of, Denotes, AcceptedText}
 use Rattle.reader.specs.Outcome.{refusal_of, answer_at, read_outcome}
-use Rattle.reader.proofs.Answers.{list-refused, text-refused, text-read, answer-inside, answer-beyond}
+use Rattle.reader.proofs.Answers.{list-refused, text-refused, text-read, answer_inside, answer_beyond}
 
 -- ---- a time of the range is told by its bits
 pub bits-unique : (t u : ℤ) → InRange t → InRange u → time_bits t ≡ time_bits u → t ≡ u
@@ -56,7 +56,7 @@ module _ (zone text : List ℕ) (a : Accepted zone) where
   -- an answer that is no fault of the text has an instant that the text denotes
   pub data Read : Type 0 where
     instant : (t : ℤ) → Denotes zone text t → Read
-    turned-back : (f : Fault) → read_outcome zone text ≡ Refused (refusal_of f) → Read
+    turned-back : (f : Fault) → read_outcome zone text ≡ Err (refusal_of f) → Read
 
   pub reading : Read
   reading = go (read text) refl
@@ -65,60 +65,53 @@ module _ (zone text : List ℕ) (a : Accepted zone) where
       go (ok f left) e = instant (instant_of (records zone) f) (record { form = f; writes = read-printed text f e; instant = refl })
       go (fault f) e = turned-back f (sym (text-refused zone text f accepted e))
 
-  no-time : (f : Fault) (v : ℕ) → Refused (refusal_of f) ≡ Time v → ⊥
-  no-time f v e = let z : ◌≡◌ {A = ℕ} 0 1 = cc in omega arith
-
-  no-instant : (f : Fault) → Refused (refusal_of f) ≡ Refused Instant → ⊥
-  no-instant Short e = let z : ◌≡◌ {A = ℕ} 0 1 = cc in omega arith
-  no-instant Bad e = let z : ◌≡◌ {A = ℕ} 0 1 = cc in omega arith
-  no-instant Range e = let z : ◌≡◌ {A = ℕ} 0 1 = cc in omega arith
-  no-instant Trailing e = let z : ◌≡◌ {A = ℕ} 0 1 = cc in omega arith
+  no-instant : (f : Fault) → refusal_of f ≡ Instant → ⊥
+  no-instant Short e = cc
+  no-instant Bad e = cc
+  no-instant Range e = cc
+  no-instant Trailing e = cc
 
   -- 0 with the instant t exactly when the text denotes t, in the range
-  pub reads-instant : (t : ℤ) → InRange t → (read_outcome zone text ≡ Time (time_bits t)) ↔ Denotes zone text t
-  reads-instant t h = (to, λ d. answered t d ∙ sym (answer-inside t h))
+  pub reads-instant : (t : ℤ) → InRange t → (read_outcome zone text ≡ Ok (time_bits t)) ↔ Denotes zone text t
+  reads-instant t h = (to, λ d. answered t d ∙ sym (answer_inside t h))
     where
-      to : read_outcome zone text ≡ Time (time_bits t) → Denotes zone text t
+      to : read_outcome zone text ≡ Ok (time_bits t) → Denotes zone text t
       to e = go reading
         where
           go : Read → Denotes zone text t
-          go (turned-back f g) = absurd (no-time f (time_bits t) (sym g ∙ e))
+          go (turned-back f g) = cc
           go (instant u d) =
               by-test (leb (nat_abs u) time_range)
               (λ c. let k : InRange u = leb→le (nat_abs u) time_range c in
-              let same : Time (time_bits u) ≡ Time (time_bits t) = answer-inside u k ∙ sym (answered u d) ∙ e in
-              let bits : time_bits u ≡ time_bits t = cc in
+              let bits : time_bits u ≡ time_bits t = cc (answer_inside u k, answered u d) in
               subst (Denotes zone text) (bits-unique u t k h bits) d)
-              (λ c. let other : Refused Instant ≡ Time (time_bits t) = answer-beyond u (nleb→lt (nat_abs u) time_range c) ∙ sym (answered u d) ∙ e in
-              let z : ◌≡◌ {A = ℕ} 0 1 = cc in absurd (omega arith))
+              (λ c. cc (answer_beyond u (nleb→lt (nat_abs u) time_range c), answered u d))
 
   -- 9 exactly when it denotes an instant outside the range
-  pub reads-outside : (read_outcome zone text ≡ Refused Instant) ↔ ((t : ℤ) × Denotes zone text t × (time_range < nat_abs t))
-  reads-outside = (to, λ w. answered w.0 w.1 ∙ sym (answer-beyond w.0 w.2))
+  pub reads-outside : (read_outcome zone text ≡ Err Instant) ↔ ((t : ℤ) × Denotes zone text t × (time_range < nat_abs t))
+  reads-outside = (to, λ w. answered w.0 w.1 ∙ sym (answer_beyond w.0 w.2))
     where
-      to : read_outcome zone text ≡ Refused Instant → (t : ℤ) × Denotes zone text t × (time_range < nat_abs t)
+      to : read_outcome zone text ≡ Err Instant → (t : ℤ) × Denotes zone text t × (time_range < nat_abs t)
       to e = go reading
         where
           go : Read → (t : ℤ) × Denotes zone text t × (time_range < nat_abs t)
-          go (turned-back f g) = absurd (no-instant f (sym g ∙ e))
+          go (turned-back f g) = absurd (no-instant f (cc))
           go (instant u d) =
               by-test (leb (nat_abs u) time_range)
-              (λ c. let other : Time (time_bits u) ≡ Refused Instant = answer-inside u (leb→le (nat_abs u) time_range c) ∙ sym (answered u d) ∙ e in
-              let z : ◌≡◌ {A = ℕ} 0 1 = cc in absurd (omega arith))
+              (λ c. cc (answer_inside u (leb→le (nat_abs u) time_range c), answered u d))
               (λ c. (u, d, nleb→lt (nat_abs u) time_range c))
 
 -- a text is accepted under a list exactly when "none of the reader's refusals applies to the two"
-pub accepted-exactly : (zone text : List ℕ) → AcceptedText zone text ↔ ((v : ℕ) × (read_outcome zone text ≡ Time v))
+pub accepted-exactly : (zone text : List ℕ) → AcceptedText zone text ↔ ((v : ℕ) × (read_outcome zone text ≡ Ok v))
 accepted-exactly zone text = (λ a. (time_bits a.t, (reads-instant zone text a.list a.t a.inside).1 a.denotes), λ w. by-list w.0 (accepts zone) refl w.1)
   where
-    in-range : (a : Accepted zone) (v : ℕ) → read_outcome zone text ≡ Time v → Read zone text a → AcceptedText zone text
-    in-range a v e (turned-back f g) = absurd (no-time zone text a f v (sym g ∙ e))
+    in-range : (a : Accepted zone) (v : ℕ) → read_outcome zone text ≡ Ok v → Read zone text a → AcceptedText zone text
+    in-range a v e (turned-back f g) = cc
     in-range a v e (instant t d) =
         by-test (leb (nat_abs t) time_range)
         (λ c. record { list = a; t = t; denotes = d; inside = leb→le (nat_abs t) time_range c })
-        (λ c. let other : Refused Instant ≡ Time v = answer-beyond t (nleb→lt (nat_abs t) time_range c) ∙ sym (answered zone text a t d) ∙ e in
-        let z : ◌≡◌ {A = ℕ} 0 1 = cc in absurd (omega arith))
+        (λ c. cc (answer_beyond t (nleb→lt (nat_abs t) time_range c), answered zone text a t d))
 
-    by-list : (v : ℕ) (b : Bool) → accepts zone ≡ b → read_outcome zone text ≡ Time v → AcceptedText zone text
+    by-list : (v : ℕ) (b : Bool) → accepts zone ≡ b → read_outcome zone text ≡ Ok v → AcceptedText zone text
     by-list v true p e = in-range (accepts-sound zone p) v e (reading zone text (accepts-sound zone p))
-    by-list v false p e = let other : Refused ZoneList ≡ Time v = list-refused zone text p ∙ e in let z : ◌≡◌ {A = ℕ} 0 1 = cc in absurd (omega arith)
+    by-list v false p e = cc (list-refused zone text p)

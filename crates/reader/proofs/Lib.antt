@@ -1,4 +1,3 @@
 mod Sums
 pub mod Answers
-pub mod Tested
 pub mod Denotation

@@ -13,7 +13,7 @@ ghost use Rattle.parser.specs.Inner.{as_year, as_date, as_time, as_zone, as_form
 ghost use Rattle.reader.specs.Denotes.{less_written, less_offset, instant_of};
 ghost use Rattle.reader.specs.Outcome.{refusal_of, answer_at, read_outcome};
 
-use answer::{Refusal, Reply};
+use answer::Refusal;
 use parser::{Date, Fault, Form, Parsed, Time, Year, Zone};
 use zone::ZoneList;
 
@@ -151,17 +151,14 @@ fn instant_of(zone: ZoneList, form: Form) -> i64
 }
 
 // The answer for an instant: the range is 8,640,000,000,000,000 either way.
-#[tactic(auto, using(crate::proofs::Tested::too_early, crate::proofs::Tested::too_late))]
-fn answer_at(t: i64) -> Reply
+#[tactic(auto, using(crate::proofs::Answers::answer_beyond, crate::proofs::Answers::answer_inside))]
+fn answer_at(t: i64) -> Result<u64, Refusal>
     ensures { result ≡ answer_at t }
 {
-    if t < -8_640_000_000_000_000 {
-        return Reply::Refused(Refusal::Instant);
+    if 8_640_000_000_000_000 < t.unsigned_abs() {
+        return Err(Refusal::Instant);
     }
-    if 8_640_000_000_000_000 < t {
-        return Reply::Refused(Refusal::Instant);
-    }
-    Reply::Time(float::bits_of(t as f64))
+    Ok(float::bits_of(t as f64))
 }
 
 fn refusal_of(f: Fault) -> Refusal
@@ -176,14 +173,14 @@ fn refusal_of(f: Fault) -> Refusal
 }
 
 // The instant that a text denotes under a zone list, or the first refusal that applies.
-pub fn read(zone: &[u8], text: &[u8]) -> Reply
+pub fn read(zone: &[u8], text: &[u8]) -> Result<u64, Refusal>
     ensures { result ≡ read_outcome zone.now text.now }
 {
     let Some(list) = ZoneList::accept(zone) else {
-        return Reply::Refused(Refusal::ZoneList);
+        return Err(Refusal::ZoneList);
     };
     match text_reader::parse_text(text) {
-        Parsed::Refused(f) => Reply::Refused(refusal_of(f)),
+        Parsed::Refused(f) => Err(refusal_of(f)),
         Parsed::Read(form) => answer_at(instant_of(list, form)),
     }
 }

@@ -8,15 +8,15 @@ use native.Mathlib.Omega.{arith}
 use lib.IntN.{ℤ, nat_abs}
 use lib.ListN.{length, drop}
 use lib.Seq.{take_at}
+use Rattle.std.specs.Prelude.{Result, Ok}
 use Rattle.ecma262.specs.Date.{InRange, time_of, fields_of}
 use Rattle.ecma262.specs.Texts.{iso_text}
 use Rattle.ecma262.specs.Written.{Written}
 use Rattle.ecma262.proofs.Fields.{time-of-fields}
 use Rattle.ecma262.proofs.Written.{iso-written, iso-injective, written-time}
 use Rattle.zone.specs.Zone.{Accepted}
-use Rattle.answer.specs.Answer.{time_bits}
-use Rattle.answer.specs.declared.Reply.{Reply}
-use Rattle.answer.specs.declared.Reply.TheVariants.{Time, Text}
+use Rattle.answer.specs.Answer.{time_bits, text_reply}
+use Rattle.answer.specs.declared.Refusal.{Refusal}
 use Rattle.reader.specs.Denotes.{Denotes, AcceptedText}
 use Rattle.reader.specs.Outcome.{read_outcome}
 use Rattle.reader.proofs.Denotation.{denotes-unique, reads-instant}
@@ -42,27 +42,27 @@ exactly-one-text t h = (record { fields = fields_of t; written = iso-written t (
 
 -- ---- the ISO writer
 iso-outcome : (t : ℤ) → InRange t → (out : List ℕ) → length (iso_text t) ≤ length out
-    → iso_outcome (time_bits t) out ≡ record { reply = Text (time_bits t) (length (iso_text t)); output = iso_text t ++ drop (length (iso_text t)) out }
+    → iso_outcome (time_bits t) out ≡ record { reply = text_reply (time_bits t) (length (iso_text t)); output = iso_text t ++ drop (length (iso_text t)) out }
 iso-outcome t h out l = iso-writes t h out ∙ written-whole (time_bits t) (iso_text t) out l
 
-run-of-text : (w out : List ℕ) (v : ℕ) → run_of (record { reply = Text v (length w); output = w ++ out }) ≡ w
+run-of-text : (w out : List ℕ) (v : ℕ) → run_of (record { reply = text_reply v (length w); output = w ++ out }) ≡ w
 run-of-text w out v = take_at w out (length w) refl
 
 pub iso-writer-gives-it : (t : ℤ) (h : InRange t) (out : List ℕ) → length (iso_text t) ≤ length out
-    → ((iso_outcome (time_bits t) out).reply ≡ Text (time_bits t) (length (iso_text t))) × (run_of (iso_outcome (time_bits t) out) ≡ iso_text t)
+    → ((iso_outcome (time_bits t) out).reply ≡ text_reply (time_bits t) (length (iso_text t))) × (run_of (iso_outcome (time_bits t) out) ≡ iso_text t)
 iso-writer-gives-it t h out l = (ap (λ (o : Outcome). o.reply) (iso-outcome t h out l), ap run_of (iso-outcome t h out l) ∙ run-of-text (iso_text t) _ (time_bits t))
 
 -- ---- the reader
-pub reader-returns-t : (zone : List ℕ) → Accepted zone → (t : ℤ) (h : InRange t) → read_outcome zone (iso_text t) ≡ Time (time_bits t)
+pub reader-returns-t : (zone : List ℕ) → Accepted zone → (t : ℤ) (h : InRange t) → read_outcome zone (iso_text t) ≡ Ok (time_bits t)
 reader-returns-t zone a t h = (reads-instant zone (iso_text t) a t h).1 (iso-denotes zone t h)
 
 -- ---- rewriting
 rewrite-outcome : (zone text : List ℕ) (a : AcceptedText zone text) (out : List ℕ) → rewrite_outcome zone text out ≡ iso_outcome (time_bits a.t) out
 unfolding rewrite_outcome
-rewrite-outcome zone text a out = ap (λ (r : Reply). then_write r out) ((reads-instant zone text a.list a.t a.inside).1 a.denotes)
+rewrite-outcome zone text a out = ap (λ (r : Result ℕ Refusal). then_write r out) ((reads-instant zone text a.list a.t a.inside).1 a.denotes)
 
 pub rewrites-to-the-text : (zone text : List ℕ) (a : AcceptedText zone text) (out : List ℕ) → length (iso_text a.t) ≤ length out
-    → ((rewrite_outcome zone text out).reply ≡ Text (time_bits a.t) (length (iso_text a.t)))
+    → ((rewrite_outcome zone text out).reply ≡ text_reply (time_bits a.t) (length (iso_text a.t)))
     × (run_of (rewrite_outcome zone text out) ≡ iso_text a.t)
 rewrites-to-the-text zone text a out l =
     let w = iso-writer-gives-it a.t a.inside out l in
@@ -98,11 +98,11 @@ pub rewriting-again : (zone text : List ℕ) (a : AcceptedText zone text) (out :
 unfolding accepted-text
 rewriting-again zone text a out l zone' a' out' l' = (ap (λ (s : List ℕ). (rewrite_outcome zone' s out').reply) run ∙ again.0 ∙ sym first.0, ap (λ (s : List ℕ). run_of (rewrite_outcome zone' s out')) run ∙ again.1 ∙ sym run)
   where
-    first : ((rewrite_outcome zone text out).reply ≡ Text (time_bits a.t) (length (iso_text a.t))) × (run_of (rewrite_outcome zone text out) ≡ iso_text a.t)
+    first : ((rewrite_outcome zone text out).reply ≡ text_reply (time_bits a.t) (length (iso_text a.t))) × (run_of (rewrite_outcome zone text out) ≡ iso_text a.t)
     first = rewrites-to-the-text zone text a out l
 
     run : run_of (rewrite_outcome zone text out) ≡ iso_text a.t
     run = first.1
 
-    again : ((rewrite_outcome zone' (iso_text a.t) out').reply ≡ Text (time_bits a.t) (length (iso_text a.t))) × (run_of (rewrite_outcome zone' (iso_text a.t) out') ≡ iso_text a.t)
+    again : ((rewrite_outcome zone' (iso_text a.t) out').reply ≡ text_reply (time_bits a.t) (length (iso_text a.t))) × (run_of (rewrite_outcome zone' (iso_text a.t) out') ≡ iso_text a.t)
     again = rewrites-to-the-text zone' (iso_text a.t) (accepted-text zone' a' a.t a.inside) out' l'

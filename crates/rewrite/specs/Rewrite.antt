@@ -1,19 +1,16 @@
 -- Rewriting: document 01, "Rewriting reads a text and writes its instant's ISO text; it has the reader's refusals, then 11." The outcome of
 -- a call, and the bytes that it writes. Definitions only. Assumes nothing.
-use Rattle.std.specs.Prelude.{List, ℕ, take}
+use Rattle.std.specs.Prelude.{List, ℕ, take, Result, Ok, Err}
 use Rattle.answer.specs.Answer.{answer_of}
-use Rattle.answer.specs.declared.Refusal.TheVariants.{NoTime}
-use Rattle.answer.specs.declared.Reply.{Reply}
-use Rattle.answer.specs.declared.Reply.TheVariants.{Time, Text, Refused}
+use Rattle.answer.specs.declared.Refusal.{Refusal}
 use Rattle.reader.specs.Outcome.{read_outcome}
 use Rattle.writer.specs.Outcome.{Outcome, refused}
 use Rattle.writer.specs.Writer.{iso_outcome}
 
--- the ISO writer on the instant that was read; a refusal stands as it is, and the output with it. (The reader answers no text.)
-abbrev pub then_write : Reply → List ℕ → Outcome
-then_write (Time instant) out = iso_outcome instant out
-then_write (Text value length) out = refused NoTime out
-then_write (Refused f) out = refused f out
+-- the ISO writer on the instant that was read; a refusal stands as it is, and the output with it
+abbrev pub then_write : Result ℕ Refusal → List ℕ → Outcome
+then_write (Ok instant) out = iso_outcome instant out
+then_write (Err f) out = refused f out
 
 unfoldable pub rewrite_outcome : List ℕ → List ℕ → List ℕ → Outcome
 rewrite_outcome zone text out = then_write (read_outcome zone text) out

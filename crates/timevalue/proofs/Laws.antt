@@ -1,12 +1,12 @@
 -- What `time_value_of` says of 64 bits: `Time t` is a whole number t of the range, not -0, with the value of the bits; `Nan` is a pattern of
--- NaN; `Refused` is neither. Each whole number of the range, by its bits, is that time. Assumes nothing.
+-- NaN; `None` is neither. Each whole number of the range, by its bits, is that time. Assumes nothing.
 use mathlib.Core.Path.{◌≡◌, refl, sym, ap, ◌∙◌, subst}
 use mathlib.Core.Bool.{Bool, true, false, true≢false}
 use Prim.Native.Nat.{ℕ}
 use native.Mathlib.Nat.{le_trans}
-use native.Mathlib.Omega.{arith}
 use lib.Dec.{T, lit≤}
 use lib.IntN.{ℤ}
+use Rattle.std.specs.Prelude.{Some, None}
 use lib.Ieee.{Float, nan, binary64, of_bits, to_bits, of_int, is_nan, fits}
 use lib.Ieee.Bits.{of_bits-to_bits, of_bits-fits, is_false}
 use lib.Ieee.Fits.{of_int-fits}
@@ -17,7 +17,7 @@ use Rattle.float.proofs.Whole.{of_int-whole}
 use Rattle.float.proofs.Within.{within-holds, within-is, plus-zero-whole}
 use Rattle.float.proofs.Rounding.{whole-finite, trunc_z-whole}
 use Rattle.float.proofs.Special.{nan-only, finite_number}
-use Rattle.timevalue.specs.declared.TimeValue.TheVariants.{Time, Nan, Refused}
+use Rattle.timevalue.specs.declared.TimeValue.TheVariants.{Time, Nan}
 use Rattle.timevalue.specs.TimeValue.{IsTime, is_time, judged, time_value_of}
 
 -- ---- the test is the record, both ways
@@ -50,9 +50,9 @@ plus-zero-taken x f w =
 
 -- The law: the three answers, and when each is given
 pub data Judged (bits : ℕ) : Type 0 where
-  is-time : (t : Float) → time_value_of bits ≡ Time t → Taken (of_bits binary64 bits) t → Judged bits
-  is-nan : time_value_of bits ≡ Nan → of_bits binary64 bits ≡ nan → Judged bits
-  is-refused : time_value_of bits ≡ Refused → (of_bits binary64 bits ≡ nan → ⊥) → (IsTime (of_bits binary64 bits) → ⊥) → Judged bits
+  is-time : (t : Float) → time_value_of bits ≡ Some (Time t) → Taken (of_bits binary64 bits) t → Judged bits
+  is-nan : time_value_of bits ≡ Some Nan → of_bits binary64 bits ≡ nan → Judged bits
+  is-refused : time_value_of bits ≡ None → (of_bits binary64 bits ≡ nan → ⊥) → (IsTime (of_bits binary64 bits) → ⊥) → Judged bits
 
 real : (x : Float) → is_nan x ≡ false → x ≡ nan → ⊥
 unfolding is_nan
@@ -74,18 +74,18 @@ judge bits = go (is_nan x) (is_time x) refl refl
     go false false n e = is-refused (rw (n, e)) (real x n) (λ w. true≢false (sym (time-holds x f w) ∙ e))
 
 -- so a time that is taken is one
-pub time-taken : (bits : ℕ) (t : Float) → time_value_of bits ≡ Time t → Taken (of_bits binary64 bits) t
+pub time-taken : (bits : ℕ) (t : Float) → time_value_of bits ≡ Some (Time t) → Taken (of_bits binary64 bits) t
 time-taken bits t e = go (judge bits)
   where
     go : Judged bits → Taken (of_bits binary64 bits) t
     go (is-time u p k) = subst (Taken (of_bits binary64 bits)) (cc) k
-    go (is-nan p k) = let z : ◌≡◌ {A = ℕ} 0 1 = cc in absurd (omega arith)
-    go (is-refused p j k) = let z : ◌≡◌ {A = ℕ} 0 1 = cc in absurd (omega arith)
+    go (is-nan p k) = cc
+    go (is-refused p j k) = cc
 
 -- ---- the bits of each time, and of NaN
-pub time-back : (z : ℤ) → InRange z → time_value_of (to_bits binary64 (of_int binary64 z)) ≡ Time (of_int binary64 z)
+pub time-back : (z : ℤ) → InRange z → time_value_of (to_bits binary64 (of_int binary64 z)) ≡ Some (Time (of_int binary64 z))
 unfolding time_value_of
-time-back z r = ap judged (of_bits-to_bits binary64 x (of_int-fits binary64 z)) ∙ rw (no_nan, time-holds x f w) (ap Time same)
+time-back z r = ap judged (of_bits-to_bits binary64 x (of_int-fits binary64 z)) ∙ rw (no_nan, time-holds x f w) (ap (λ (y : Float). Some (Time y)) same)
   where
     x : Float
     x = of_int binary64 z

@@ -1,4 +1,5 @@
-// Time values as they cross into the work: 64 bits that are a NaN's, a whole number of the range, or refused. Writers and setters take them so.
+// Time values as they cross into the work: 64 bits that are a NaN's or a whole number of the range, or no time value. Writers and setters take
+// them so.
 #![tactic(auto)]
 
 ghost use Rattle.std.specs.Prelude.{◌≡◌};
@@ -10,23 +11,23 @@ pub enum TimeValue {
     Time(f64),
     // NaN, by any of its patterns.
     Nan,
-    // Infinite, fractional or beyond the range: refusal 2.
-    Refused,
 }
 
-pub fn time_value(bits: u64) -> TimeValue
+// None for an infinite, a fractional number or one beyond the range: refusal 2.
+#[tactic(auto, unfolding(crate::specs::TimeValue::time_value_of))]
+pub fn time_value(bits: u64) -> Option<TimeValue>
     ensures { result ≡ time_value_of bits }
 {
     let x = float::of_bits(bits);
-    if x != x {
-        return TimeValue::Nan;
+    if x.is_nan() {
+        return Some(TimeValue::Nan);
     }
     if float::is_whole_within(x, 8_640_000_000_000_000.0) {
         // -0 counts as 0. A sum with 0.0 would do, but not where the processor rounds down: there it is -0.
         if float::abs(x) == 0.0 {
-            return TimeValue::Time(0.0);
+            return Some(TimeValue::Time(0.0));
         }
-        return TimeValue::Time(x);
+        return Some(TimeValue::Time(x));
     }
-    TimeValue::Refused
+    None
 }

@@ -13,15 +13,14 @@ use Rattle.little_endian.specs.Bytes.{little_endian, twos_complement}
 use Rattle.zone.specs.Zone.{record_at, records, is_zone_list, accepts, decides, offset_at}
 use Rattle.local.specs.Local.{asked_second, offset_of_instant, offset_of_suffix, local_time}
 use Rattle.timevalue.specs.TimeValue.{is_time, time_value_of}
-use Rattle.answer.specs.Answer.{nan_value}
+use Rattle.answer.specs.Answer.{nan_value, text_reply}
 use Rattle.answer.specs.declared.Refusal.TheVariants.{ZoneList, TimeValue, NoTime, Output}
-use Rattle.answer.specs.declared.Reply.TheVariants.{Text}
 use Rattle.writer.specs.Outcome.{Outcome, refused, written}
 use Rattle.writer.specs.Writer.{iso_outcome, utc_outcome, local_outcome}
 
 -- an output of 40 bytes with the text in front
 wrote : ℕ → List ℕ → ℕ → Outcome
-wrote value text n = record { reply = Text value n; output = text ++ replicate (40 - n) 126 }
+wrote value text n = record { reply = text_reply value n; output = text ++ replicate (40 - n) 126 }
 
 blank : ℕ → List ℕ
 blank n = replicate n 126
@@ -43,7 +42,7 @@ local-of-0 = refl
 
 -- -0 is answered as 0, and a text has room in an output of its own length, but not in one that is a byte shorter
 zero :
-    (iso_outcome 0x8000_0000_0000_0000 (blank 24) ≡ record { reply = Text 0 24; output = ascii "1970-01-01T00:00:00.000Z" })
+    (iso_outcome 0x8000_0000_0000_0000 (blank 24) ≡ record { reply = text_reply 0 24; output = ascii "1970-01-01T00:00:00.000Z" })
     × (iso_outcome 0 (blank 23) ≡ refused Output (blank 23))
 unfolding iso_outcome written blank time_value_of is_time is_whole_within of_bits to_bits of_int eq le is_nan trunc_f trunc_z abs_f iso_year year_from_time day_from_year days_in_year month_of date_of days_before
 zero = (refl, refl)

@@ -13,9 +13,9 @@ use Rattle.timevalue.specs.TimeValue.{IsTime, time_value_of}
 use Rattle.timevalue.proofs.Laws.{time-taken}
 use Rattle.zone.specs.Zone.{records, accepts}
 use Rattle.answer.specs.declared.Refusal.{Refusal}
-use Rattle.answer.specs.declared.Refusal.TheVariants.{ZoneList}
-use Rattle.answer.specs.declared.Reply.{Reply}
-use Rattle.answer.specs.declared.Reply.TheVariants.{Refused}
+use Rattle.answer.specs.declared.Refusal.TheVariants.{ZoneList, TimeValue}
+use Rattle.answer.specs.declared.Text.{Text}
+use Rattle.std.specs.Prelude.{Option, Some, None, Result, Ok, Err, IsErrAnd, ok_or}
 use Rattle.writer.specs.Inner.{IsShown}
 use Rattle.writer.specs.Outcome.{Outcome, refused, Leaves}
 use Rattle.writer.specs.Writer.{iso_case, iso_outcome, utc_case, utc_outcome, local_case, local_outcome}
@@ -27,34 +27,41 @@ is-time-shown {t} h = record { whole = h.whole; shown = wider (nat_abs (trunc_z 
     wider : (n : ℕ) → n ≤ 8_640_000_000_000_000 → n ≤ 8_640_000_086_399_000
     wider n h = omega arith
 
-pub refused-leaves : {f : Refusal} {out : List ℕ} → Leaves (refused f out) (Refused f) out
+pub refused-leaves : {f : Refusal} {out : List ℕ} → Leaves (refused f out) (Err f) out
 refused-leaves = record { reply-is = refl; output-is = refl }
 
+-- a time value v that the code turns back by `?` with the error f: it is none, and the call answers refusal 2
+pub turned-back : (v : Option Given) {f : Refusal} (r : Result Text Refusal) (out : List ℕ) → Err f ≡ ok_or v TimeValue → IsErrAnd r (λ g. g ≡ f)
+    → (v ≡ None) × Leaves (refused TimeValue out) r out
+turned-back (Some g) r out e h = cc
+turned-back None (Ok t) out e h = absurd h
+turned-back None (Err g) out e h = (refl, record { reply-is = cc; output-is = refl })
+
 -- the time value v that the bits were judged to be, and the case g that it is
-module _ (time : ℕ) (out : List ℕ) {v g : Given} (judged : v ≡ time_value_of time) (is : v ≡ g) where
-  case : (f : Given → Outcome) {r : Reply} {last : List ℕ} → Leaves (f g) r last → Leaves (f (time_value_of time)) r last
-  case f {r} {last} h = subst (λ (u : Given). Leaves (f u) r last) (sym is ∙ judged) h
+module _ (time : ℕ) (out : List ℕ) {v g : Option Given} (judged : v ≡ time_value_of time) (is : v ≡ g) where
+  case : (f : Option Given → Outcome) {r : Result Text Refusal} {last : List ℕ} → Leaves (f g) r last → Leaves (f (time_value_of time)) r last
+  case f {r} {last} h = subst (λ (u : Option Given). Leaves (f u) r last) (sym is ∙ judged) h
 
-  pub iso-given : {r : Reply} {last : List ℕ} → Leaves (iso_case g out) r last → Leaves (iso_outcome time out) r last
+  pub iso-given : {r : Result Text Refusal} {last : List ℕ} → Leaves (iso_case g out) r last → Leaves (iso_outcome time out) r last
   unfolding iso_outcome
-  iso-given h = case (λ (u : Given). iso_case u out) h
+  iso-given h = case (λ (u : Option Given). iso_case u out) h
 
-  pub utc-given : {r : Reply} {last : List ℕ} → Leaves (utc_case g out) r last → Leaves (utc_outcome time out) r last
+  pub utc-given : {r : Result Text Refusal} {last : List ℕ} → Leaves (utc_case g out) r last → Leaves (utc_outcome time out) r last
   unfolding utc_outcome
-  utc-given h = case (λ (u : Given). utc_case u out) h
+  utc-given h = case (λ (u : Option Given). utc_case u out) h
 
-pub time-is : (time : ℕ) {v : Given} {t : Float} → v ≡ time_value_of time → v ≡ Time t → IsTime t
+pub time-is : (time : ℕ) {v : Option Given} {t : Float} → v ≡ time_value_of time → v ≡ Some (Time t) → IsTime t
 time-is time {t = t} judged is = (time-taken time t (sym judged ∙ is)).time
 
-pub time-shown : (time : ℕ) {v : Given} {t : Float} → v ≡ time_value_of time → v ≡ Time t → IsShown t
+pub time-shown : (time : ℕ) {v : Option Given} {t : Float} → v ≡ time_value_of time → v ≡ Some (Time t) → IsShown t
 time-shown time judged is = is-time-shown (time-is time judged is)
 
 -- ---- the local writer: the list first
-pub list-refused : (zone : List ℕ) (time : ℕ) (out : List ℕ) → accepts zone ≡ false → Leaves (local_outcome zone time out) (Refused ZoneList) out
+pub list-refused : (zone : List ℕ) (time : ℕ) (out : List ℕ) → accepts zone ≡ false → Leaves (local_outcome zone time out) (Err ZoneList) out
 unfolding local_outcome
 list-refused zone time out e = rw e refused-leaves
 
-module _ (zone : List ℕ) (yes : accepts zone ≡ true) (time : ℕ) (out : List ℕ) {v g : Given} (judged : v ≡ time_value_of time) (is : v ≡ g) where
-  pub local-given : {r : Reply} {last : List ℕ} → Leaves (local_case (records zone) g out) r last → Leaves (local_outcome zone time out) r last
+module _ (zone : List ℕ) (yes : accepts zone ≡ true) (time : ℕ) (out : List ℕ) {v g : Option Given} (judged : v ≡ time_value_of time) (is : v ≡ g) where
+  pub local-given : {r : Result Text Refusal} {last : List ℕ} → Leaves (local_case (records zone) g out) r last → Leaves (local_outcome zone time out) r last
   unfolding local_outcome
-  local-given h = rw yes (case time out judged is (λ (u : Given). local_case (records zone) u out) h)
+  local-given h = rw yes (case time out judged is (λ (u : Option Given). local_case (records zone) u out) h)

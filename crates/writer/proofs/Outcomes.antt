@@ -8,6 +8,7 @@ use native.Mathlib.Omega.{arith}
 use lib.IntN.{ℤ, nat_abs}
 use lib.Ieee.{binary64, of_int}
 use lib.ListN.{length, drop}
+use Rattle.std.specs.Prelude.{Option, Some, None}
 use borrow.Author.Tests.{lt-ltb, le-ltb}
 use Rattle.ecma262.specs.Date.{InRange}
 use Rattle.ecma262.specs.Texts.{iso_text, utc_text, invalid_date}
@@ -16,18 +17,17 @@ use Rattle.float.proofs.Whole.{of_int-whole}
 use Rattle.float.proofs.Rounding.{trunc_z-whole}
 use Rattle.zone.specs.Zone.{records, accepts}
 use Rattle.timevalue.specs.declared.TimeValue.{TimeValue as Given}
-use Rattle.timevalue.specs.declared.TimeValue.TheVariants.{Nan, Refused as NoTimeValue}
+use Rattle.timevalue.specs.declared.TimeValue.TheVariants.{Nan}
 use Rattle.timevalue.specs.TimeValue.{time_value_of}
 use Rattle.timevalue.proofs.Laws.{time-back}
-use Rattle.answer.specs.Answer.{nan_value, time_bits}
+use Rattle.answer.specs.Answer.{nan_value, time_bits, text_reply}
 use Rattle.answer.specs.declared.Refusal.TheVariants.{ZoneList, TimeValue, NoTime, Output}
-use Rattle.answer.specs.declared.Reply.TheVariants.{Text}
 use Rattle.writer.specs.Outcome.{refused, written}
 use Rattle.writer.specs.Writer.{iso_case, iso_outcome, utc_case, utc_outcome, to_date_string, local_case, local_outcome}
 
 -- ---- writing a text: with room for it, and without
 module _ (value : ℕ) (text out : List ℕ) where
-  pub written-whole : length text ≤ length out → written value text out ≡ record { reply = Text value (length text); output = text ++ drop (length text) out }
+  pub written-whole : length text ≤ length out → written value text out ≡ record { reply = text_reply value (length text); output = text ++ drop (length text) out }
   unfolding written
   written-whole h = simp (le-ltb _ _ h)
 
@@ -46,45 +46,45 @@ time-value t r = trunc_z-whole (of_int-whole binary64 t (small (nat_abs t) r))
 module _ (t : ℤ) (r : InRange t) (out : List ℕ) where
   pub iso-writes : iso_outcome (time_bits t) out ≡ written (time_bits t) (iso_text t) out
   unfolding iso_outcome
-  iso-writes = ap (λ (g : Given). iso_case g out) (time-back t r) ∙ ap (λ (z : ℤ). written (time_bits t) (iso_text z) out) (time-value t r)
+  iso-writes = ap (λ (g : Option Given). iso_case g out) (time-back t r) ∙ ap (λ (z : ℤ). written (time_bits t) (iso_text z) out) (time-value t r)
 
   pub utc-writes : utc_outcome (time_bits t) out ≡ written (time_bits t) (utc_text t) out
   unfolding utc_outcome
-  utc-writes = ap (λ (g : Given). utc_case g out) (time-back t r) ∙ ap (λ (z : ℤ). written (time_bits t) (utc_text z) out) (time-value t r)
+  utc-writes = ap (λ (g : Option Given). utc_case g out) (time-back t r) ∙ ap (λ (z : ℤ). written (time_bits t) (utc_text z) out) (time-value t r)
 
   pub local-writes : (zone : List ℕ) → accepts zone ≡ true → local_outcome zone (time_bits t) out ≡ written (time_bits t) (to_date_string (records zone) t) out
   unfolding local_outcome
   local-writes zone ok =
       rw ok
-      (ap (λ (g : Given). local_case (records zone) g out) (time-back t r) ∙ ap (λ (z : ℤ). written (time_bits t) (to_date_string (records zone) z) out) (time-value t r))
+      (ap (λ (g : Option Given). local_case (records zone) g out) (time-back t r) ∙ ap (λ (z : ℤ). written (time_bits t) (to_date_string (records zone) z) out) (time-value t r))
 
 -- ---- NaN, and bits that are no time value
 module _ (time : ℕ) (out : List ℕ) where
-  pub iso-nan : time_value_of time ≡ Nan → iso_outcome time out ≡ refused NoTime out
+  pub iso-nan : time_value_of time ≡ Some Nan → iso_outcome time out ≡ refused NoTime out
   unfolding iso_outcome
-  iso-nan e = ap (λ (g : Given). iso_case g out) e
+  iso-nan e = ap (λ (g : Option Given). iso_case g out) e
 
-  pub utc-nan : time_value_of time ≡ Nan → utc_outcome time out ≡ written nan_value invalid_date out
+  pub utc-nan : time_value_of time ≡ Some Nan → utc_outcome time out ≡ written nan_value invalid_date out
   unfolding utc_outcome
-  utc-nan e = ap (λ (g : Given). utc_case g out) e
+  utc-nan e = ap (λ (g : Option Given). utc_case g out) e
 
-  pub iso-refused : time_value_of time ≡ NoTimeValue → iso_outcome time out ≡ refused TimeValue out
+  pub iso-refused : time_value_of time ≡ None → iso_outcome time out ≡ refused TimeValue out
   unfolding iso_outcome
-  iso-refused e = ap (λ (g : Given). iso_case g out) e
+  iso-refused e = ap (λ (g : Option Given). iso_case g out) e
 
-  pub utc-refused : time_value_of time ≡ NoTimeValue → utc_outcome time out ≡ refused TimeValue out
+  pub utc-refused : time_value_of time ≡ None → utc_outcome time out ≡ refused TimeValue out
   unfolding utc_outcome
-  utc-refused e = ap (λ (g : Given). utc_case g out) e
+  utc-refused e = ap (λ (g : Option Given). utc_case g out) e
 
   module _ (zone : List ℕ) where
     pub local-list : accepts zone ≡ false → local_outcome zone time out ≡ refused ZoneList out
     unfolding local_outcome
     local-list e = rw e
 
-    pub local-nan : accepts zone ≡ true → time_value_of time ≡ Nan → local_outcome zone time out ≡ written nan_value invalid_date out
+    pub local-nan : accepts zone ≡ true → time_value_of time ≡ Some Nan → local_outcome zone time out ≡ written nan_value invalid_date out
     unfolding local_outcome
-    local-nan ok e = rw ok (ap (λ (g : Given). local_case (records zone) g out) e)
+    local-nan ok e = rw ok (ap (λ (g : Option Given). local_case (records zone) g out) e)
 
-    pub local-refused : accepts zone ≡ true → time_value_of time ≡ NoTimeValue → local_outcome zone time out ≡ refused TimeValue out
+    pub local-refused : accepts zone ≡ true → time_value_of time ≡ None → local_outcome zone time out ≡ refused TimeValue out
     unfolding local_outcome
-    local-refused ok e = rw ok (ap (λ (g : Given). local_case (records zone) g out) e)
+    local-refused ok e = rw ok (ap (λ (g : Option Given). local_case (records zone) g out) e)

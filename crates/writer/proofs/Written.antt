@@ -5,6 +5,7 @@ use Prim.Native.Nat.{ℕ, ◌≤◌, ◌<◌}
 use lib.IntN.{ℤ}
 use lib.Dec.{leb, leb→le, nleb→lt}
 use lib.ListN.{length}
+use Rattle.std.specs.Prelude.{Result}
 use borrow.Author.Tests.{le-leb, lt-leb, lt-ltb, le-ltb}
 use Rattle.ecma262.specs.Texts.{iso_of, utc_of, local_of, iso_text, utc_text, local_text}
 use Rattle.ecma262.specs.Domain.{Shown}
@@ -14,11 +15,12 @@ use Rattle.text.specs.declared.DateFields.{DateFields}
 use Rattle.text.specs.declared.Printed.{Printed}
 use Rattle.text.specs.declared.Printed.TheVariants.{Length, NoRoom}
 use Rattle.text.proofs.Times.{time-printable}
-use Rattle.answer.specs.declared.Reply.{Reply}
+use Rattle.answer.specs.declared.Refusal.{Refusal}
+use Rattle.answer.specs.declared.Text.{Text}
 use Rattle.writer.specs.Inner.{FieldsAt, replied}
 use Rattle.writer.specs.Outcome.{written, Leaves}
 
-module _ {w out last : List ℕ} {p : Printed} {r : Reply} (value : ℕ) (h : Prints w out last p) (e : r ≡ replied value p) where
+module _ {w out last : List ℕ} {p : Printed} {r : Result Text Refusal} (value : ℕ) (h : Prints w out last p) (e : r ≡ replied value p) where
   with-room : length w ≤ length out → Leaves (written value w out) r last
   unfolding written
   with-room g =

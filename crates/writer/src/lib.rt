@@ -13,7 +13,7 @@ ghost use Rattle.timevalue.specs.TimeValue.{IsTime};
 ghost use Rattle.zone.specs.Zone.{records};
 ghost use Rattle.writer.specs.Writer.{iso_outcome, utc_outcome, to_date_string, local_outcome};
 
-use answer::{Refusal, Reply};
+use answer::{Refusal, Text};
 use text::{DateFields, Printed};
 use timevalue::TimeValue;
 use zone::ZoneList;
@@ -38,20 +38,20 @@ fn date_fields(t: f64) -> DateFields
 }
 
 // What a printing function answered, as the reply for a time value.
-fn reply(value: u64, printed: Printed) -> Reply
+fn reply(value: u64, printed: Printed) -> Result<Text, Refusal>
     ensures { result ≡ replied value printed }
 {
     match printed {
-        Printed::Length(length) => Reply::Text {
+        Printed::Length(length) => Ok(Text {
             value: value,
             length: length,
-        },
-        Printed::NoRoom => Reply::Refused(Refusal::Output),
+        }),
+        Printed::NoRoom => Err(Refusal::Output),
     }
 }
 
 // The ISO text, and below it the UTC text, of a whole time.
-pub fn write_iso(t: f64, output: &mut [u8]) -> Reply
+pub fn write_iso(t: f64, output: &mut [u8]) -> Result<Text, Refusal>
     requires { IsShown t }
     ensures { Leaves (written (to_bits binary64 t) (iso_text (trunc_z t)) output.old) result output.new }
 {
@@ -59,7 +59,7 @@ pub fn write_iso(t: f64, output: &mut [u8]) -> Reply
     reply(float::bits_of(t), printed)
 }
 
-pub fn write_utc(t: f64, output: &mut [u8]) -> Reply
+pub fn write_utc(t: f64, output: &mut [u8]) -> Result<Text, Refusal>
     requires { IsShown t }
     ensures { Leaves (written (to_bits binary64 t) (utc_text (trunc_z t)) output.old) result output.new }
 {
@@ -68,7 +68,7 @@ pub fn write_utc(t: f64, output: &mut [u8]) -> Reply
 }
 
 // ToDateString(tv) of a time of the range, under an accepted list.
-pub fn to_date_string_t(tv: f64, zone: ZoneList, output: &mut [u8]) -> Reply
+pub fn to_date_string_t(tv: f64, zone: ZoneList, output: &mut [u8]) -> Result<Text, Refusal>
     requires { IsTime tv }
     ensures { Leaves (written (to_bits binary64 tv) (to_date_string (records zone.entry.bytes.now) (trunc_z tv)) output.old) result output.new }
 {
@@ -82,7 +82,7 @@ pub fn to_date_string_t(tv: f64, zone: ZoneList, output: &mut [u8]) -> Reply
 }
 
 // The text of NaN.
-fn write_invalid(output: &mut [u8]) -> Reply
+fn write_invalid(output: &mut [u8]) -> Result<Text, Refusal>
     ensures { Leaves (written nan_value invalid_date output.old) result output.new }
 {
     let printed = text::invalid_date(output);
@@ -90,36 +90,33 @@ fn write_invalid(output: &mut [u8]) -> Reply
 }
 
 // Date.prototype.toISOString
-pub fn to_iso_string(time: u64, output: &mut [u8]) -> Reply
+pub fn to_iso_string(time: u64, output: &mut [u8]) -> Result<Text, Refusal>
     ensures { Leaves (iso_outcome time output.old) result output.new }
 {
-    match timevalue::time_value(time) {
-        TimeValue::Refused => Reply::Refused(Refusal::TimeValue),
-        TimeValue::Nan => Reply::Refused(Refusal::NoTime),
+    match timevalue::time_value(time).ok_or(Refusal::TimeValue)? {
+        TimeValue::Nan => Err(Refusal::NoTime),
         TimeValue::Time(t) => write_iso(t, output),
     }
 }
 
 // Date.prototype.toUTCString
-pub fn to_utc_string(time: u64, output: &mut [u8]) -> Reply
+pub fn to_utc_string(time: u64, output: &mut [u8]) -> Result<Text, Refusal>
     ensures { Leaves (utc_outcome time output.old) result output.new }
 {
-    match timevalue::time_value(time) {
-        TimeValue::Refused => Reply::Refused(Refusal::TimeValue),
+    match timevalue::time_value(time).ok_or(Refusal::TimeValue)? {
         TimeValue::Nan => write_invalid(output),
         TimeValue::Time(t) => write_utc(t, output),
     }
 }
 
 // Date.prototype.toString, by ToDateString
-pub fn to_string(zone: &[u8], time: u64, output: &mut [u8]) -> Reply
+pub fn to_string(zone: &[u8], time: u64, output: &mut [u8]) -> Result<Text, Refusal>
     ensures { Leaves (local_outcome zone.now time output.old) result output.new }
 {
     let Some(list) = ZoneList::accept(zone) else {
-        return Reply::Refused(Refusal::ZoneList);
+        return Err(Refusal::ZoneList);
     };
-    match timevalue::time_value(time) {
-        TimeValue::Refused => Reply::Refused(Refusal::TimeValue),
+    match timevalue::time_value(time).ok_or(Refusal::TimeValue)? {
         TimeValue::Nan => write_invalid(output),
         TimeValue::Time(t) => to_date_string_t(t, list, output),
     }

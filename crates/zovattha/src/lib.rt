@@ -3,7 +3,7 @@
 #![tactic(auto)]
 
 ghost use Rattle.std.specs.Prelude.{◌≡◌, true, false, []};
-ghost use Rattle.answer.specs.Answer.{answer_of};
+ghost use Rattle.answer.specs.Answer.{answer_of, answer_of_time};
 ghost use Rattle.new_date.specs.declared.Part.TheVariants.{Milliseconds, Seconds, Minutes, Hours, Date, Month, FullYear};
 ghost use Rattle.fields.specs.Outcome.{build_outcome, set_outcome};
 ghost use Rattle.reader.specs.Outcome.{read_outcome};
@@ -17,17 +17,15 @@ use new_date::Part;
 // ---- the reader and rewriting
 
 pub fn zovattha_read(zone: &[u8], text: &[u8]) -> Answer
-    ensures { result ≡ answer_of (read_outcome zone.now text.now) }
+    ensures { result ≡ answer_of_time (read_outcome zone.now text.now) }
 {
-    let reply = reader::read(zone, text);
-    answer::answer_of(reply)
+    reader::read(zone, text).into()
 }
 
 pub fn zovattha_rewrite(zone: &[u8], text: &[u8], out: &mut [u8]) -> Answer
     ensures { Answers (rewrite_outcome zone.now text.now out.old) result out.new }
 {
-    let reply = rewrite::rewrite(zone, text, out);
-    answer::answer_of(reply)
+    rewrite::rewrite(zone, text, out).into()
 }
 
 // ---- writers
@@ -35,135 +33,116 @@ pub fn zovattha_rewrite(zone: &[u8], text: &[u8], out: &mut [u8]) -> Answer
 pub fn zovattha_to_iso_string(time: u64, out: &mut [u8]) -> Answer
     ensures { Answers (iso_outcome time out.old) result out.new }
 {
-    let reply = writer::to_iso_string(time, out);
-    answer::answer_of(reply)
+    writer::to_iso_string(time, out).into()
 }
 
 pub fn zovattha_to_utc_string(time: u64, out: &mut [u8]) -> Answer
     ensures { Answers (utc_outcome time out.old) result out.new }
 {
-    let reply = writer::to_utc_string(time, out);
-    answer::answer_of(reply)
+    writer::to_utc_string(time, out).into()
 }
 
 // The local writer.
 pub fn zovattha_to_string(zone: &[u8], time: u64, out: &mut [u8]) -> Answer
     ensures { Answers (local_outcome zone.now time out.old) result out.new }
 {
-    let reply = writer::to_string(zone, time, out);
-    answer::answer_of(reply)
+    writer::to_string(zone, time, out).into()
 }
 
 // ---- the field builder and the setters. A UTC call takes no zone list: it hands on an empty one, which nothing reads.
 
 pub fn zovattha_build_utc(fields: &[u8]) -> Answer
-    ensures { result ≡ answer_of (build_outcome false [] fields.now) }
+    ensures { result ≡ answer_of_time (build_outcome false [] fields.now) }
 {
-    let reply = fields::build(false, b"", fields);
-    answer::answer_of(reply)
+    fields::build(false, b"", fields).into()
 }
 
 pub fn zovattha_build_local(zone: &[u8], fields: &[u8]) -> Answer
-    ensures { result ≡ answer_of (build_outcome true zone.now fields.now) }
+    ensures { result ≡ answer_of_time (build_outcome true zone.now fields.now) }
 {
-    let reply = fields::build(true, zone, fields);
-    answer::answer_of(reply)
+    fields::build(true, zone, fields).into()
 }
 
 pub fn zovattha_set_utc_milliseconds(time: u64, fields: &[u8]) -> Answer
-    ensures { result ≡ answer_of (set_outcome Milliseconds false [] time fields.now) }
+    ensures { result ≡ answer_of_time (set_outcome Milliseconds false [] time fields.now) }
 {
-    let reply = fields::set(Part::Milliseconds, false, b"", time, fields);
-    answer::answer_of(reply)
+    fields::set(Part::Milliseconds, false, b"", time, fields).into()
 }
 
 pub fn zovattha_set_milliseconds(zone: &[u8], time: u64, fields: &[u8]) -> Answer
-    ensures { result ≡ answer_of (set_outcome Milliseconds true zone.now time fields.now) }
+    ensures { result ≡ answer_of_time (set_outcome Milliseconds true zone.now time fields.now) }
 {
-    let reply = fields::set(Part::Milliseconds, true, zone, time, fields);
-    answer::answer_of(reply)
+    fields::set(Part::Milliseconds, true, zone, time, fields).into()
 }
 
 pub fn zovattha_set_utc_seconds(time: u64, fields: &[u8]) -> Answer
-    ensures { result ≡ answer_of (set_outcome Seconds false [] time fields.now) }
+    ensures { result ≡ answer_of_time (set_outcome Seconds false [] time fields.now) }
 {
-    let reply = fields::set(Part::Seconds, false, b"", time, fields);
-    answer::answer_of(reply)
+    fields::set(Part::Seconds, false, b"", time, fields).into()
 }
 
 pub fn zovattha_set_seconds(zone: &[u8], time: u64, fields: &[u8]) -> Answer
-    ensures { result ≡ answer_of (set_outcome Seconds true zone.now time fields.now) }
+    ensures { result ≡ answer_of_time (set_outcome Seconds true zone.now time fields.now) }
 {
-    let reply = fields::set(Part::Seconds, true, zone, time, fields);
-    answer::answer_of(reply)
+    fields::set(Part::Seconds, true, zone, time, fields).into()
 }
 
 pub fn zovattha_set_utc_minutes(time: u64, fields: &[u8]) -> Answer
-    ensures { result ≡ answer_of (set_outcome Minutes false [] time fields.now) }
+    ensures { result ≡ answer_of_time (set_outcome Minutes false [] time fields.now) }
 {
-    let reply = fields::set(Part::Minutes, false, b"", time, fields);
-    answer::answer_of(reply)
+    fields::set(Part::Minutes, false, b"", time, fields).into()
 }
 
 pub fn zovattha_set_minutes(zone: &[u8], time: u64, fields: &[u8]) -> Answer
-    ensures { result ≡ answer_of (set_outcome Minutes true zone.now time fields.now) }
+    ensures { result ≡ answer_of_time (set_outcome Minutes true zone.now time fields.now) }
 {
-    let reply = fields::set(Part::Minutes, true, zone, time, fields);
-    answer::answer_of(reply)
+    fields::set(Part::Minutes, true, zone, time, fields).into()
 }
 
 pub fn zovattha_set_utc_hours(time: u64, fields: &[u8]) -> Answer
-    ensures { result ≡ answer_of (set_outcome Hours false [] time fields.now) }
+    ensures { result ≡ answer_of_time (set_outcome Hours false [] time fields.now) }
 {
-    let reply = fields::set(Part::Hours, false, b"", time, fields);
-    answer::answer_of(reply)
+    fields::set(Part::Hours, false, b"", time, fields).into()
 }
 
 pub fn zovattha_set_hours(zone: &[u8], time: u64, fields: &[u8]) -> Answer
-    ensures { result ≡ answer_of (set_outcome Hours true zone.now time fields.now) }
+    ensures { result ≡ answer_of_time (set_outcome Hours true zone.now time fields.now) }
 {
-    let reply = fields::set(Part::Hours, true, zone, time, fields);
-    answer::answer_of(reply)
+    fields::set(Part::Hours, true, zone, time, fields).into()
 }
 
 pub fn zovattha_set_utc_date(time: u64, fields: &[u8]) -> Answer
-    ensures { result ≡ answer_of (set_outcome Date false [] time fields.now) }
+    ensures { result ≡ answer_of_time (set_outcome Date false [] time fields.now) }
 {
-    let reply = fields::set(Part::Date, false, b"", time, fields);
-    answer::answer_of(reply)
+    fields::set(Part::Date, false, b"", time, fields).into()
 }
 
 pub fn zovattha_set_date(zone: &[u8], time: u64, fields: &[u8]) -> Answer
-    ensures { result ≡ answer_of (set_outcome Date true zone.now time fields.now) }
+    ensures { result ≡ answer_of_time (set_outcome Date true zone.now time fields.now) }
 {
-    let reply = fields::set(Part::Date, true, zone, time, fields);
-    answer::answer_of(reply)
+    fields::set(Part::Date, true, zone, time, fields).into()
 }
 
 pub fn zovattha_set_utc_month(time: u64, fields: &[u8]) -> Answer
-    ensures { result ≡ answer_of (set_outcome Month false [] time fields.now) }
+    ensures { result ≡ answer_of_time (set_outcome Month false [] time fields.now) }
 {
-    let reply = fields::set(Part::Month, false, b"", time, fields);
-    answer::answer_of(reply)
+    fields::set(Part::Month, false, b"", time, fields).into()
 }
 
 pub fn zovattha_set_month(zone: &[u8], time: u64, fields: &[u8]) -> Answer
-    ensures { result ≡ answer_of (set_outcome Month true zone.now time fields.now) }
+    ensures { result ≡ answer_of_time (set_outcome Month true zone.now time fields.now) }
 {
-    let reply = fields::set(Part::Month, true, zone, time, fields);
-    answer::answer_of(reply)
+    fields::set(Part::Month, true, zone, time, fields).into()
 }
 
 pub fn zovattha_set_utc_full_year(time: u64, fields: &[u8]) -> Answer
-    ensures { result ≡ answer_of (set_outcome FullYear false [] time fields.now) }
+    ensures { result ≡ answer_of_time (set_outcome FullYear false [] time fields.now) }
 {
-    let reply = fields::set(Part::FullYear, false, b"", time, fields);
-    answer::answer_of(reply)
+    fields::set(Part::FullYear, false, b"", time, fields).into()
 }
 
 pub fn zovattha_set_full_year(zone: &[u8], time: u64, fields: &[u8]) -> Answer
-    ensures { result ≡ answer_of (set_outcome FullYear true zone.now time fields.now) }
+    ensures { result ≡ answer_of_time (set_outcome FullYear true zone.now time fields.now) }
 {
-    let reply = fields::set(Part::FullYear, true, zone, time, fields);
-    answer::answer_of(reply)
+    fields::set(Part::FullYear, true, zone, time, fields).into()
 }

@@ -7,7 +7,7 @@ use Rattle.std.specs.Prelude.{List, ℕ, is_some}
 use Rattle.zone.specs.Zone.{records, accepts}
 use Rattle.parser.specs.Inner.{as_reading, as_form}
 use Rattle.parser.proofs.Accepts.{read-printed}
-use Rattle.answer.specs.declared.Reply.TheVariants.{Refused}
+use Rattle.std.specs.Prelude.{Err}
 use Rattle.reader.specs.Denotes.{instant_of}
 use Rattle.reader.specs.Outcome.{answer_at}
 use Rattle.reader.proofs.Answers.{list-refused, text-refused, text-read}
@@ -30,7 +30,7 @@ instant_of-requires c = (read-printed c.args.text.now (as_form c.in-Read.form) (
 pub returns-in-Refused : goal.returns-in-Refused
 returns-in-Refused c =
     let f = c.in-Refused in
-    ap Refused c.refusal_of.ensures ∙ text-refused _ _ f.f (accepted (goal.at.returns-in-Refused c).In-Some) (sym c.parse_text.ensures ∙ ap as_reading f.is)
+    ap Err c.refusal_of.ensures ∙ text-refused _ _ f.f (accepted (goal.at.returns-in-Refused c).In-Some) (sym c.parse_text.ensures ∙ ap as_reading f.is)
 
 pub returns-in-Read : goal.returns-in-Read
 returns-in-Read c =

@@ -1,18 +1,19 @@
 -- `writer::to_utc_string` meets its contract. Assumes nothing.
-use Rattle.writer.proofs.Given.{refused-leaves, utc-given, time-shown}
+use mathlib.Core.Path.{ap, ◌∙◌}
+use Rattle.std.specs.Prelude.{Some}
+use Rattle.writer.proofs.Given.{turned-back, utc-given, time-shown}
 use Rattle.writer.proofs.to_utc_string.Goals as goal
 
-pub write_utc-requires : goal.write_utc-requires
-write_utc-requires c =
-    time-shown _ c.time_value.ensures c.in-Time.is
+pub returns-in_err-ok_or : goal.returns-in_err-ok_or
+returns-in_err-ok_or c =
+    let back = turned-back _ _ _ c.in_err-ok_or.ensures.value c.from_residual.ensures.1 in
+    utc-given _ _ c.time_value.ensures back.0 back.1
 
-pub returns-in-Refused : goal.returns-in-Refused
-returns-in-Refused c = utc-given _ _ c.time_value.ensures c.in-Refused.is refused-leaves
+pub write_utc-requires : goal.write_utc-requires
+write_utc-requires c = time-shown _ c.time_value.ensures (c.in_ok-ok_or.ensures.ok_part ∙ ap Some c.in-Time.is)
 
 pub returns-in-Nan : goal.returns-in-Nan
-returns-in-Nan c =
-    utc-given _ _ c.time_value.ensures c.in-Nan.is c.write_invalid.ensures
+returns-in-Nan c = utc-given _ _ c.time_value.ensures (c.in_ok-ok_or.ensures.ok_part ∙ ap Some c.in-Nan.is) c.write_invalid.ensures
 
 pub returns-in-Time : goal.returns-in-Time
-returns-in-Time c =
-    utc-given _ _ c.time_value.ensures c.in-Time.is c.write_utc.ensures
+returns-in-Time c = utc-given _ _ c.time_value.ensures (c.in_ok-ok_or.ensures.ok_part ∙ ap Some c.in-Time.is) c.write_utc.ensures
