@@ -51,7 +51,7 @@ pub fn is_nan(x: f64) -> bool
 }
 
 // Rust's `is_finite`: neither a NaN nor an infinity.
-#[tactic(auto, using(crate::proofs::Finite::finite_is))]
+#[tactic(auto, using(crate::proofs::Special::finite_is))]
 pub fn is_finite(x: f64) -> bool
     ensures { result ≡ finite x }
 {
@@ -93,16 +93,14 @@ pub fn abs(x: f64) -> f64
 }
 
 // Rust's `copysign`: the magnitude of x with the sign of y. A NaN y counts as positive: so its pattern is.
+#[tactic(auto, using(crate::proofs::Changed::signed_nan, crate::proofs::Changed::signed_number, crate::proofs::Changed::signed_of))]
 pub fn copysign(x: f64, y: f64) -> f64
     ensures { result ≡ copysign_f x y }
 {
-    let sign = bits_of(y);
-    by_bits(
-        x,
-        move |b|
-            ensures { result ≡ sign / 2 ^ 63 * 2 ^ 63 + b % 2 ^ 63 }
-        { join_sign(sign, b) },
-    )
+    if x.is_nan() {
+        return x;
+    }
+    f64::from_bits(join_sign(bits_of(y), x.to_bits()))
 }
 
 // ---- the whole part and the floor: the bits below the point are cleared
