@@ -1,6 +1,7 @@
 -- What `by_bits` makes of a value: of each change of a pattern that it is called with, that no number becomes a NaN, and what the result is. Assumes nothing.
 use Rattle.std.proofs.Common.{◌≡◌, ℕ, ◌+◌, ◌*◌, ◌/◌, ◌%◌, ◌^◌, true, not, T, sym, refl, ap, ◌∙◌, subst}
 use lib.Ieee.{Float, nan, inf, fin, binary64, fits, is_nan, nan_bits, of_bits, to_bits}
+use Rattle.integers.proofs.Machine.{true-T}
 use Rattle.float.specs.Rounding.{trunc_f, floor_f, abs_f, copysign_f}
 use Rattle.float.proofs.Special.{nan-only}
 use Rattle.float.proofs.Patterns.{no_nan, bits_back, abs-bits, abs-number, copysign-bits, copysign-number}
@@ -15,17 +16,14 @@ made (inf s) y v n p a b = let q = b tt in q.2 ∙ p q.0 q.1
 made (fin s m e) y v n p a b = let q = b tt in q.2 ∙ p q.0 q.1
 
 module _ (x : Float) (held : fits binary64 x ≡ true) where
-  own : T (fits binary64 x)
-  own = subst T (sym held) tt
-
   trunc_of : (r : ℕ) → of_bits binary64 r ≡ trunc_f (of_bits binary64 (to_bits binary64 x)) → of_bits binary64 r ≡ trunc_f x
-  trunc_of r e = e ∙ ap trunc_f (bits_back x own)
+  trunc_of r e = e ∙ ap trunc_f (bits_back x (true-T _ held))
 
   floor_of : (r : ℕ) → of_bits binary64 r ≡ floor_f (of_bits binary64 (to_bits binary64 x)) → of_bits binary64 r ≡ floor_f x
-  floor_of r e = e ∙ ap floor_f (bits_back x own)
+  floor_of r e = e ∙ ap floor_f (bits_back x (true-T _ held))
 
   abs_of : (r : ℕ) → r ≡ to_bits binary64 x % 2 ^ 63 → of_bits binary64 r ≡ abs_f x
-  abs_of r e = ap (of_bits binary64) e ∙ abs-bits x own
+  abs_of r e = ap (of_bits binary64) e ∙ abs-bits x (true-T _ held)
 
   pub trunc_number : (r : ℕ) → T (not (is_nan x)) → of_bits binary64 r ≡ trunc_f (of_bits binary64 (to_bits binary64 x)) → T (not (nan_bits binary64 r))
   trunc_number r n e = no_nan r (trunc_f x) (trunc_of r e) (trunc-number x n)
@@ -34,7 +32,7 @@ module _ (x : Float) (held : fits binary64 x ≡ true) where
   floor_number r n e = no_nan r (floor_f x) (floor_of r e) (floor-number x n)
 
   pub abs_number : (r : ℕ) → T (not (is_nan x)) → r ≡ to_bits binary64 x % 2 ^ 63 → T (not (nan_bits binary64 r))
-  abs_number r n e = no_nan r (abs_f x) (abs_of r e) (abs-number x own n)
+  abs_number r n e = no_nan r (abs_f x) (abs_of r e) (abs-number x (true-T _ held) n)
 
   pub trunc_made : (y : Float) → (is_nan x ≡ true → y ≡ x) → (T (not (is_nan x)) → (r : ℕ) × (of_bits binary64 r ≡ trunc_f (of_bits binary64 (to_bits binary64 x))) × (y ≡ of_bits binary64 r)) → y ≡ trunc_f x
   unfolding trunc_f
@@ -55,7 +53,7 @@ signed_nan x y n = subst (λ v. v ≡ copysign_f v y) (sym (nan-only x n)) refl
 
 module _ (x y : Float) (held : fits binary64 x ≡ true) (held' : fits binary64 y ≡ true) where
   pub signed_of : (r : ℕ) → r ≡ to_bits binary64 y / 2 ^ 63 * 2 ^ 63 + to_bits binary64 x % 2 ^ 63 → of_bits binary64 r ≡ copysign_f x y
-  signed_of r e = ap (of_bits binary64) e ∙ copysign-bits x y (subst T (sym held) tt) (subst T (sym held') tt)
+  signed_of r e = ap (of_bits binary64) e ∙ copysign-bits x y (true-T _ held) (true-T _ held')
 
   pub signed_number : T (not (is_nan x)) → T (not (nan_bits binary64 (to_bits binary64 y / 2 ^ 63 * 2 ^ 63 + to_bits binary64 x % 2 ^ 63)))
-  signed_number n = no_nan _ (copysign_f x y) (signed_of _ refl) (copysign-number x y (subst T (sym held) tt) (subst T (sym held') tt) n)
+  signed_number n = no_nan _ (copysign_f x y) (signed_of _ refl) (copysign-number x y (true-T _ held) (true-T _ held') n)

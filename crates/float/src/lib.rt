@@ -118,6 +118,7 @@ fn fraction_bits(e: u64) -> u64
 }
 
 // The pattern of the whole part of b's value.
+#[tactic(auto, using(crate::proofs::Clearing::fraction_fits, crate::proofs::Clearing::trunc_cut))]
 fn trunc_bits(b: u64) -> u64
     ensures { from_bits binary64 result ≡ trunc_f (from_bits binary64 b) }
 {
@@ -246,7 +247,7 @@ fn rem_bits(a: u64, b: u64) -> u64
 }
 
 // Rust's `x % y`, for every two, without the C library's fmod.
-#[tactic(auto, using(crate::proofs::Digits::of_nan, crate::proofs::Digits::by_nan, crate::proofs::Digits::of_infinity, crate::proofs::Digits::by_zero, crate::proofs::Digits::by_infinity, crate::proofs::Digits::of_two, crate::proofs::Digits::no_nan_made))]
+#[tactic(auto, using(crate::proofs::Digits::of_nan, crate::proofs::Digits::by_nan, crate::proofs::Digits::of_infinity, crate::proofs::Digits::by_zero, crate::proofs::Digits::by_infinity, crate::proofs::Digits::of_two))]
 fn remainder(x: f64, y: f64) -> f64
     ensures { result ≡ rem binary64 x y }
 {
