@@ -259,10 +259,7 @@ fn remainder(x: f64, y: f64) -> f64
     }
     let a = x.to_bits();
     let b = y.to_bits();
-    if exponent(a) == 0x7ff {
-        return f64::NAN;
-    }
-    if without_sign(b) == 0 {
+    if exponent(a) == 0x7ff || without_sign(b) == 0 {
         return f64::NAN;
     }
     if exponent(b) == 0x7ff {
