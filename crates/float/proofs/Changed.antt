@@ -1,7 +1,9 @@
 -- What `by_bits` makes of a value: of each change of a pattern that it is called with, that no number becomes a NaN, and what the result is. Assumes nothing.
 use Rattle.std.proofs.Common.{◌≡◌, ℕ, ◌+◌, ◌*◌, ◌/◌, ◌%◌, ◌^◌, true, not, T, sym, refl, ap, ◌∙◌, subst}
 use lib.Ieee.{Float, nan, inf, fin, binary64, fits, is_nan, nan_bits, of_bits, to_bits}
+use Rattle.integers.proofs.Machine.{true-T}
 use Rattle.float.specs.Rounding.{trunc_f, floor_f, abs_f, copysign_f}
+use Rattle.float.proofs.Special.{nan-only}
 use Rattle.float.proofs.Patterns.{no_nan, bits_back, abs-bits, abs-number, copysign-bits, copysign-number}
 use Rattle.float.proofs.Clearing.{trunc-number, floor-number}
 
@@ -14,17 +16,14 @@ made (inf s) y v n p a b = let q = b tt in q.2 ∙ p q.0 q.1
 made (fin s m e) y v n p a b = let q = b tt in q.2 ∙ p q.0 q.1
 
 module _ (x : Float) (held : fits binary64 x ≡ true) where
-  own : T (fits binary64 x)
-  own = subst T (sym held) tt
-
   trunc_of : (r : ℕ) → of_bits binary64 r ≡ trunc_f (of_bits binary64 (to_bits binary64 x)) → of_bits binary64 r ≡ trunc_f x
-  trunc_of r e = e ∙ ap trunc_f (bits_back x own)
+  trunc_of r e = e ∙ ap trunc_f (bits_back x (true-T _ held))
 
   floor_of : (r : ℕ) → of_bits binary64 r ≡ floor_f (of_bits binary64 (to_bits binary64 x)) → of_bits binary64 r ≡ floor_f x
-  floor_of r e = e ∙ ap floor_f (bits_back x own)
+  floor_of r e = e ∙ ap floor_f (bits_back x (true-T _ held))
 
   abs_of : (r : ℕ) → r ≡ to_bits binary64 x % 2 ^ 63 → of_bits binary64 r ≡ abs_f x
-  abs_of r e = ap (of_bits binary64) e ∙ abs-bits x own
+  abs_of r e = ap (of_bits binary64) e ∙ abs-bits x (true-T _ held)
 
   pub trunc_number : (r : ℕ) → T (not (is_nan x)) → of_bits binary64 r ≡ trunc_f (of_bits binary64 (to_bits binary64 x)) → T (not (nan_bits binary64 r))
   trunc_number r n e = no_nan r (trunc_f x) (trunc_of r e) (trunc-number x n)
@@ -33,7 +32,7 @@ module _ (x : Float) (held : fits binary64 x ≡ true) where
   floor_number r n e = no_nan r (floor_f x) (floor_of r e) (floor-number x n)
 
   pub abs_number : (r : ℕ) → T (not (is_nan x)) → r ≡ to_bits binary64 x % 2 ^ 63 → T (not (nan_bits binary64 r))
-  abs_number r n e = no_nan r (abs_f x) (abs_of r e) (abs-number x own n)
+  abs_number r n e = no_nan r (abs_f x) (abs_of r e) (abs-number x (true-T _ held) n)
 
   pub trunc_made : (y : Float) → (is_nan x ≡ true → y ≡ x) → (T (not (is_nan x)) → (r : ℕ) × (of_bits binary64 r ≡ trunc_f (of_bits binary64 (to_bits binary64 x))) × (y ≡ of_bits binary64 r)) → y ≡ trunc_f x
   unfolding trunc_f
@@ -47,16 +46,14 @@ module _ (x : Float) (held : fits binary64 x ≡ true) where
   unfolding abs_f
   abs_made y = made x y (abs_f x) (λ e. e ∙ ap abs_f (sym e)) abs_of
 
--- with the sign of y; a NaN's pattern has none
-module _ (x y : Float) (held : fits binary64 x ≡ true) (held' : fits binary64 y ≡ true) (s : ℕ) (is : s ≡ to_bits binary64 y) where
-  signed_of : (r : ℕ) → r ≡ s / 2 ^ 63 * 2 ^ 63 + to_bits binary64 x % 2 ^ 63 → of_bits binary64 r ≡ copysign_f x y
-  signed_of r e =
-      ap (of_bits binary64) (e ∙ ap (λ n. n / 2 ^ 63 * 2 ^ 63 + to_bits binary64 x % 2 ^ 63) is)
-      ∙ copysign-bits x y (subst T (sym held) tt) (subst T (sym held') tt)
+-- ---- the magnitude of x with the sign of y
+pub signed_nan : (x y : Float) → is_nan x ≡ true → x ≡ copysign_f x y
+unfolding copysign_f
+signed_nan x y n = subst (λ v. v ≡ copysign_f v y) (sym (nan-only x n)) refl
 
-  pub signed_number : (r : ℕ) → T (not (is_nan x)) → r ≡ s / 2 ^ 63 * 2 ^ 63 + to_bits binary64 x % 2 ^ 63 → T (not (nan_bits binary64 r))
-  signed_number r n e = no_nan r (copysign_f x y) (signed_of r e) (copysign-number x y (subst T (sym held) tt) (subst T (sym held') tt) n)
+module _ (x y : Float) (held : fits binary64 x ≡ true) (held' : fits binary64 y ≡ true) where
+  pub signed_of : (r : ℕ) → r ≡ to_bits binary64 y / 2 ^ 63 * 2 ^ 63 + to_bits binary64 x % 2 ^ 63 → of_bits binary64 r ≡ copysign_f x y
+  signed_of r e = ap (of_bits binary64) e ∙ copysign-bits x y (true-T _ held) (true-T _ held')
 
-  pub signed_made : (z : Float) → (is_nan x ≡ true → z ≡ x) → (T (not (is_nan x)) → (r : ℕ) × (r ≡ s / 2 ^ 63 * 2 ^ 63 + to_bits binary64 x % 2 ^ 63) × (z ≡ of_bits binary64 r)) → z ≡ copysign_f x y
-  unfolding copysign_f
-  signed_made z = made x z (copysign_f x y) (λ e. e ∙ ap (λ v. copysign_f v y) (sym e)) signed_of
+  pub signed_number : T (not (is_nan x)) → T (not (nan_bits binary64 (to_bits binary64 y / 2 ^ 63 * 2 ^ 63 + to_bits binary64 x % 2 ^ 63)))
+  signed_number n = no_nan _ (copysign_f x y) (signed_of _ refl) (copysign-number x y (true-T _ held) (true-T _ held') n)

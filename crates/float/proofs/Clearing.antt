@@ -116,7 +116,7 @@ cut-lead t k h = cut_high 1 t k h
 
 -- ---- the three ranges of the exponent's field
 
-split : (a b : ℕ) → (a < b) ⊎ (b ≤ a)
+pub split : (a b : ℕ) → (a < b) ⊎ (b ≤ a)
 split a b = go (ltb a b) (ltb→lt a b) (nltb→le a b)
   where
     go : (p : Bool) → (T p → a < b) → (T (not p) → b ≤ a) → (a < b) ⊎ (b ≤ a)
@@ -240,8 +240,8 @@ by-fields P h b l =
     (subst (λ (v : Float). P (pat F.s F.x F.t) v (fraction_bits F.x)) (sym (read F.s F.x F.t F.x_lt F.t-lt))
     (h F.s F.x F.t F.x_lt F.t-lt)))
 
-pub trunc-bits : (b : ℕ) → b < 2 ^ 64 → of_bits binary64 (cut b (fraction b)) ≡ trunc_f (of_bits binary64 b)
-trunc-bits = by-fields (λ (b : ℕ) (v : Float) (k : ℕ). of_bits binary64 (cut b k) ≡ trunc_f v) trunc-at
+pub trunc_cut : (b : ℕ) → b < 2 ^ 64 → of_bits binary64 (cut b (fraction b)) ≡ trunc_f (of_bits binary64 b)
+trunc_cut = by-fields (λ (b : ℕ) (v : Float) (k : ℕ). of_bits binary64 (cut b k) ≡ trunc_f v) trunc-at
 
 -- ---- the floor
 
@@ -365,8 +365,8 @@ small-bits x X = elim (zone x X) [
   | ones e f ↦ subst (λ (k : ℕ). k < 64) (sym f) (lit< tt)
 ]
 
-pub fraction-lt : (b : ℕ) → fraction b < 64
-fraction-lt b = small-bits (b / 2 ^ 52 % 2 ^ 11) (mod-lt (b / 2 ^ 52) (pow_pos 11))
+pub fraction_fits : (b : ℕ) → fraction b < 64
+fraction_fits b = small-bits (b / 2 ^ 52 % 2 ^ 11) (mod-lt (b / 2 ^ 52) (pow_pos 11))
 
 mag-zero : (x t : ℕ) → pat true 0 0 ≡ pat true x t → mag x t ≡ 0
 mag-zero zero zero h = refl

@@ -1,5 +1,5 @@
 -- The remainder of two floats by their digits and places, and the pattern of a number of smallest values. Assumes nothing.
-use Rattle.std.proofs.Common.{◌≡◌, ℕ, zero, suc, ◌+◌, ◌-◌, ◌*◌, ◌/◌, ◌%◌, ◌^◌, ◌<◌, ◌≤◌, min, Bool, true, false, cond, not, T, eqb, ltb, ◌⊎◌, pos, sym, refl, ap, ◌∙◌, subst, ap₂, inl, inr, le_trans, lt_trans, le_of_eq, lt_of_lt_of_le, lt_of_le_of_lt, lt_irrefl, mul-le-mul_right, mod-lt, mod-eq_of_lt, mul_assoc, mul_comm, add-mul, add_comm, mul-le-mul_left, mul-pos, pow-suc, div-add-mod', zero-mul, mul-one, mul_right_comm, div-one, mul-div_cancel, arith, lit≤, eqb→eq, ltb→lt, nltb→le, pow_pos, pow_mono, pow-add, shl_lt}
+use Rattle.std.proofs.Common.{◌≡◌, ℕ, zero, suc, ◌+◌, ◌-◌, ◌*◌, ◌/◌, ◌%◌, ◌^◌, ◌<◌, ◌≤◌, min, Bool, true, false, cond, not, T, eqb, pos, sym, refl, ap, ◌∙◌, subst, ap₂, inl, inr, le_trans, lt_trans, le_of_eq, lt_of_lt_of_le, lt_of_le_of_lt, lt_irrefl, mul-le-mul_right, mod-lt, mod-eq_of_lt, mul_assoc, mul_comm, add-mul, add_comm, mul-le-mul_left, mul-pos, pow-suc, div-add-mod', zero-mul, mul-one, mul_right_comm, div-one, mul-div_cancel, arith, lit≤, eqb→eq, pow_pos, pow_mono, pow-add, shl_lt}
 use Prim.Native.Nat.{compare}
 use native.Mathlib.Nat.{mul-add-mod_self_right, eq_of_mul-eq-mul_right, div-div-eq-div-mul, div-eq_of_lt, pow-succ'}
 use lib.Dec.{not_T}
@@ -12,13 +12,14 @@ use lib.Ieee.Exact.{HasValue, round_exact}
 use lib.Ieee.Nearest.{div_same}
 use lib.Ieee.Digits.{back}
 use lib.Ieee.Scale.{round_same}
+use Rattle.integers.proofs.Machine.{true-T, false-T}
 use Rattle.float.specs.Rounding.{with_sign}
 use Rattle.float.specs.Inner.{lead, place, mag}
 use Rattle.float.proofs.Rounding.{round-signed}
 use Rattle.float.proofs.Ops.{mod-scale}
 use Rattle.float.proofs.Special.{nan-only}
 use Rattle.float.proofs.Patterns.{pat, read, sign_bit, Fields, fields, digits_of, signed, bits_back, bits-lt, no_nan}
-use Rattle.float.proofs.Clearing.{fields-val, lead-lt, place-le, units_number}
+use Rattle.float.proofs.Clearing.{fields-val, lead-lt, place-le, split, units_number}
 
 -- ---- digits and places
 
@@ -100,13 +101,6 @@ module _ (q h k : ℕ) (lo : 2 ^ 52 ≤ q * 2 ^ h) (hi : q * 2 ^ h < 2 ^ 53) (le
     where
       same : (Z t d : ℕ) → 4503599627370496 + t ≡ Z → d * 4503599627370496 + Z ≡ pat false (suc d) t
       same Z t d e = omega arith
-
-split : (a b : ℕ) → (a < b) ⊎ (b ≤ a)
-split a b = go (ltb a b) (ltb→lt a b) (nltb→le a b)
-  where
-    go : (p : Bool) → (T p → a < b) → (T (not p) → b ≤ a) → (a < b) ⊎ (b ≤ a)
-    go true f g = inl (f tt)
-    go false f g = inr (g tt)
 
 -- ---- the shift that brings the top bit to bit 52
 
@@ -206,7 +200,6 @@ zeros-all n P N = (
 pub zeros-fewer : (n d : ℕ) → d ≤ count_trailing_zeros 64 n → n / 2 ^ d * 2 ^ d ≡ n
 zeros-fewer n d h = fewer n (count_trailing_zeros 64 n) d h (trailing-whole 64 n)
 
--- not shifted as far: there is no leading one
 -- r of them, the fewer of d and all
 pub zeros_fit : (n d r : ℕ) → 0 < n → n < 2 ^ 64 → r ≡ min (count_trailing_zeros 64 n) d → r < 64
 zeros_fit n d r P L is = omega (arith, (zeros-all n P L).0)
@@ -214,6 +207,7 @@ zeros_fit n d r P L is = omega (arith, (zeros-all n P L).0)
 pub zeros_whole : (n d r : ℕ) → 0 < n → n < 2 ^ 64 → r ≡ min (count_trailing_zeros 64 n) d → n / 2 ^ r * 2 ^ r ≡ n
 zeros_whole n d r P L is = zeros-fewer n r (omega arith)
 
+-- not shifted as far: there is no leading one
 pub unshifted : (q h k : ℕ) → q * 2 ^ h < 2 ^ 53 → k ≤ h → q * 2 ^ k < 2 ^ 53
 unshifted q h k hi le = lt_of_le_of_lt (mul-le-mul_left q (pow_mono le)) hi
 
@@ -473,32 +467,25 @@ module _ (x : Float) (held : T (fits binary64 x)) where
       let z = low-fields F.s F.x F.t F.x_lt F.t-lt (ap (λ (n : ℕ). n % 2 ^ 63) (sym F.is) ∙ e) in
       (F.s, from_fields F ∙ ap₂ (of_fields binary64 F.s) z.0 z.1 ∙ zero-fields F.s)
 
--- a value's own pattern
-own : (v : Float) → fits binary64 v ≡ true → T (fits binary64 v)
-own v h = subst T (sym h) tt
-
 module _ (x y : Float) (hx : fits binary64 x ≡ true) (hy : fits binary64 y ≡ true) where
   pub no_nan_made : (r : ℕ) → to_bits binary64 x / 2 ^ 52 % 2 ^ 11 < 2047 → to_bits binary64 y / 2 ^ 52 % 2 ^ 11 < 2047 → 0 < to_bits binary64 y % 2 ^ 63
       → of_bits binary64 r ≡ rem binary64 (of_bits binary64 (to_bits binary64 x)) (of_bits binary64 (to_bits binary64 y)) → T (not (nan_bits binary64 r))
   no_nan_made r fx fy some e =
       no_nan r _ e
-      (subst (λ (v : Float). T (not (is_nan v))) (sym (rem_is (to_bits binary64 x) (to_bits binary64 y) (bits-lt x (own x hx)) (bits-lt y (own y hy)) fx fy some)) (round_number _ _ (2 ^ 1074)))
+      (subst (λ (v : Float). T (not (is_nan v))) (sym (rem_is (to_bits binary64 x) (to_bits binary64 y) (bits-lt x (true-T _ hx)) (bits-lt y (true-T _ hy)) fx fy some)) (round_number _ _ (2 ^ 1074)))
 
 -- the same of two patterns, as `remainder` finds them: e is the exponent's field of x, z the pattern of y without its sign, and d the exponent's field of y
 module _ (x y : Float) (hx : fits binary64 x ≡ true) (hy : fits binary64 y ≡ true) (nx : is_nan x ≡ false) (ny : is_nan y ≡ false) where
-  number : (v : Float) → is_nan v ≡ false → T (not (is_nan v))
-  number v n = subst (λ (b : Bool). T (not b)) (sym n) tt
-
   pub of_infinity : (e : ℕ) → e ≡ to_bits binary64 x / 2 ^ 52 % 2 ^ 11 → e ≡ 2047 → of_bits binary64 9221120237041090560 ≡ rem binary64 x y
-  of_infinity e f t = let i = is-inf x (own x hx) (number x nx) (sym f ∙ t) in the-nan ∙ sym (ap (λ (v : Float). rem binary64 v y) i.1 ∙ rem-of-inf i.0 y)
+  of_infinity e f t = let i = is-inf x (true-T _ hx) (false-T _ nx) (sym f ∙ t) in the-nan ∙ sym (ap (λ (v : Float). rem binary64 v y) i.1 ∙ rem-of-inf i.0 y)
 
   pub by_zero : (z : ℕ) → z ≡ to_bits binary64 y % 2 ^ 63 → z ≡ 0 → of_bits binary64 9221120237041090560 ≡ rem binary64 x y
-  by_zero z f t = let i = is_zero y (own y hy) (sym f ∙ t) in the-nan ∙ sym (ap (rem binary64 x) i.1 ∙ rem-by-zero x i.0)
+  by_zero z f t = let i = is_zero y (true-T _ hy) (sym f ∙ t) in the-nan ∙ sym (ap (rem binary64 x) i.1 ∙ rem-by-zero x i.0)
 
   pub by_infinity : (e d : ℕ) → e ≡ to_bits binary64 x / 2 ^ 52 % 2 ^ 11 → (e ≡ 2047 → ⊥) → d ≡ to_bits binary64 y / 2 ^ 52 % 2 ^ 11 → d ≡ 2047 → x ≡ rem binary64 x y
   by_infinity e d g h f t =
-      let i = is-inf y (own y hy) (number y ny) (sym f ∙ t) in
-      sym (ap (rem binary64 x) i.1 ∙ rem-by-inf x i.0 (number x nx) (λ k. h (g ∙ k)))
+      let i = is-inf y (true-T _ hy) (false-T _ ny) (sym f ∙ t) in
+      sym (ap (rem binary64 x) i.1 ∙ rem-by-inf x i.0 (false-T _ nx) (λ k. h (g ∙ k)))
 
   pub of_two : (r : ℕ) → of_bits binary64 r ≡ rem binary64 (of_bits binary64 (to_bits binary64 x)) (of_bits binary64 (to_bits binary64 y)) → of_bits binary64 r ≡ rem binary64 x y
-  of_two r e = e ∙ ap₂ (rem binary64) (bits_back x (own x hx)) (bits_back y (own y hy))
+  of_two r e = e ∙ ap₂ (rem binary64) (bits_back x (true-T _ hx)) (bits_back y (true-T _ hy))

@@ -3,6 +3,7 @@ use Rattle.std.proofs.Common.{◌≡◌, ℕ, zero, suc, ◌*◌, ◌/◌, Bool,
 use mathlib.Core.Bool.{false≢true}
 use lib.Ieee.{Float, nan, inf, fin, binary64, fits, is_nan, up, down, eq, round, of_bits, of_int}
 use lib.Ieee.Scale.{finite}
+use Rattle.integers.proofs.Machine.{true-T}
 use Rattle.float.specs.Whole.{signed, IsWhole, trunc_z, plain}
 use Rattle.float.specs.Rounding.{trunc_f, to_integer_or_infinity}
 use Rattle.float.proofs.Rounding.{trunc-fin, trunc-whole}
@@ -57,10 +58,10 @@ integer-other (fin s m d) h n e = trunc-fin s m d ∙ go s (m * up d / down d) (
 -- the same, as the code finds it: t is x's whole part
 module _ (x : Float) (held : fits binary64 x ≡ true) (t : Float) (is : t ≡ trunc_f x) where
   pub of_zero : eq t (of_bits binary64 0) ≡ true → of_bits binary64 0 ≡ to_integer_or_infinity x
-  of_zero e = integer-zero x (subst T (sym held) tt) (ap (λ v. eq v (of_bits binary64 0)) (sym is) ∙ e)
+  of_zero e = integer-zero x (true-T _ held) (ap (λ v. eq v (of_bits binary64 0)) (sym is) ∙ e)
 
   pub of_other : T (not (is_nan x)) → eq t (of_bits binary64 0) ≡ false → t ≡ to_integer_or_infinity x
-  of_other n e = is ∙ integer-other x (subst T (sym held) tt) n (ap (λ v. eq v (of_bits binary64 0)) (sym is) ∙ e)
+  of_other n e = is ∙ integer-other x (true-T _ held) n (ap (λ v. eq v (of_bits binary64 0)) (sym is) ∙ e)
 
 -- of a finite float it is the whole number, and not -0
 pub integer-whole : (x : Float) → T (fits binary64 x) → T (finite x) → IsWhole (to_integer_or_infinity x) (trunc_z x) × T (plain (to_integer_or_infinity x))

@@ -6,7 +6,6 @@ pub mod Order
 pub mod Casts
 pub mod Modulo
 pub mod Literal
-pub mod Finite
 pub mod Rounding
 pub mod Fractions
 pub mod Special

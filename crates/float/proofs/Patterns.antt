@@ -1,13 +1,11 @@
 -- What number a bit pattern of binary64 stands for. A pattern is `pat s x t`: the sign's bit, the 11 bits x of the exponent and the 52 bits t of the fraction.
 -- Assumes nothing.
-use Rattle.std.proofs.Common.{◌≡◌, ℕ, zero, suc, ◌+◌, ◌-◌, ◌*◌, ◌/◌, ◌%◌, ◌^◌, ◌<◌, ◌≤◌, Bool, true, false, cond, not, T, eqb, leb, sym, refl, ap, ◌∙◌, subst, ap₂, true≢false, lt_of_le_of_lt, mod-lt, mod-eq_of_lt, zero-add, div-mul-le_self, arith, le→leb, lt→ltb, leb→le, pow_pos}
+use Rattle.std.proofs.Common.{◌≡◌, ℕ, zero, suc, ◌+◌, ◌-◌, ◌*◌, ◌/◌, ◌%◌, ◌^◌, ◌<◌, ◌≤◌, Bool, true, false, cond, not, T, eqb, leb, sym, refl, ap, ◌∙◌, subst, ap₂, lt_of_le_of_lt, mod-lt, mod-eq_of_lt, zero-add, div-mul-le_self, arith, le→leb, leb→le, pow_pos}
 use lib.Dec.{nleb→lt}
-use lib.Arith.{lt→nleb, le→nltb}
+use lib.Arith.{lt→nleb}
 use lib.Bits.{bit_or, bit_and, and_mask, or_shifted}
-use lib.Ieee.{Float, nan, inf, fin, binary64, div, fits, is_nan, nan_bits, to_bits, odd, of_fields, of_bits, ne}
-use lib.Ieee.Bits.{is_true, is_false, of_bits-to_bits, to_bits-lt, nan_bits_is, nan_bits_above}
-use lib.Ieee.Compare.{differs_from_itself, nan_differs}
-use Rattle.float.proofs.Special.{made-nan}
+use lib.Ieee.{Float, nan, inf, fin, binary64, fits, is_nan, nan_bits, to_bits, odd, of_fields, of_bits}
+use lib.Ieee.Bits.{is_true, is_false, of_bits-to_bits, to_bits-lt, nan_bits_is}
 use Rattle.float.specs.Rounding.{with_sign, is_negative, abs_f, copysign_f}
 
 -- `((s >> 63) << 63) | (b & 0x7fff_ffff_ffff_ffff)`
@@ -72,29 +70,6 @@ fields b h = go (leb 9223372036854775808 b) (leb→le 9223372036854775808 b) (nl
 -- a pattern whose value is no NaN is no NaN's
 pub no_nan : (r : ℕ) (v : Float) → of_bits binary64 r ≡ v → T (not (is_nan v)) → T (not (nan_bits binary64 r))
 no_nan r v e n = subst (λ (a : Bool). T (not a)) (sym (nan_bits_is binary64 r ∙ ap is_nan e)) n
-
--- the patterns of a NaN are those above the infinity's, with the sign's bit taken off
-pub nan-above : (n : ℕ) → 9218868437227405312 < n % 2 ^ 63 → of_bits binary64 n ≡ nan
-unfolding is_nan
-nan-above n h = only (of_bits binary64 n) (subst T (sym (nan_bits_above binary64 n) ∙ nan_bits_is binary64 n) (lt→ltb 9218868437227405312 (n % 2 ^ 63) h))
-  where
-    only : (v : Float) → T (is_nan v) → v ≡ nan
-    only nan t = refl
-    only (inf s) t = absurd t
-    only (fin s m e) t = absurd t
-
-pub none_above : (n : ℕ) → n % 2 ^ 63 ≤ 9218868437227405312 → T (not (nan_bits binary64 n))
-none_above n h = subst (λ (b : Bool). T (not b)) (sym (nan_bits_above binary64 n)) (le→nltb 9218868437227405312 (n % 2 ^ 63) h)
-
--- the test `x != x`: where it passes x is `nan`, and where it fails x is a number or an infinity
-pub is-nan : (x : Float) → ne x x ≡ true → x ≡ nan
-is-nan x h = differs_from_itself x (subst T (sym h) tt)
-
-pub is_number : (x : Float) → ne x x ≡ false → T (not (is_nan x))
-unfolding is_nan
-is_number nan h = absurd (true≢false (sym nan_differs ∙ h))
-is_number (inf s) h = tt
-is_number (fin s m e) h = tt
 
 -- ---- another sign
 
@@ -196,7 +171,3 @@ module _ (x y : Float) (hx : T (fits binary64 x)) (hy : T (fits binary64 y)) whe
   pub copysign-number : T (not (is_nan x)) → T (not (is_nan (copysign_f x y)))
   unfolding copysign_f
   copysign-number n = signed-number (is_negative y) x n
-
--- what `of_bits` answers for the pattern n of a NaN, where m is n without its sign
-pub made_above : (n m : ℕ) → m ≡ n % 2 ^ 63 → 9218868437227405312 < m → div binary64 (of_bits binary64 0) (of_bits binary64 0) ≡ of_bits binary64 n
-made_above n m e h = made-nan ∙ sym (nan-above n (subst (λ (k : ℕ). 9218868437227405312 < k) e h))

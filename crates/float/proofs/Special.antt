@@ -7,6 +7,7 @@ use lib.Ieee.{Float, nan, inf, fin, div, eq, ne, is_nan, binary64, of_bits}
 use lib.Ieee.Bits.{is_false}
 use lib.Ieee.Compare.{differs_from_itself, nan_differs}
 use lib.Ieee.Scale.{finite}
+use Rattle.std.specs.Float.{float_is_finite}
 
 -- ---- the tests `x != x` and `is_finite`
 number : (x : Float) → T (not (is_nan x)) → x ≡ nan → ⊥
@@ -30,6 +31,13 @@ unfolding is_nan
 finite_number nan F = F
 finite_number (inf s) F = tt
 finite_number (fin s m e) F = tt
+
+-- std's word for the same test
+pub finite_is : (x : Float) → float_is_finite x ≡ finite x
+unfolding float_is_finite
+finite_is nan = refl
+finite_is (inf s) = refl
+finite_is (fin s m e) = refl
 
 -- ---- NaN in a test
 

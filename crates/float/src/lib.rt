@@ -51,7 +51,7 @@ pub fn is_nan(x: f64) -> bool
 }
 
 // Rust's `is_finite`: neither a NaN nor an infinity.
-#[tactic(auto, using(crate::proofs::Finite::finite_is))]
+#[tactic(auto, using(crate::proofs::Special::finite_is))]
 pub fn is_finite(x: f64) -> bool
     ensures { result ≡ finite x }
 {
@@ -93,16 +93,14 @@ pub fn abs(x: f64) -> f64
 }
 
 // Rust's `copysign`: the magnitude of x with the sign of y. A NaN y counts as positive: so its pattern is.
+#[tactic(auto, using(crate::proofs::Changed::signed_nan, crate::proofs::Changed::signed_number, crate::proofs::Changed::signed_of))]
 pub fn copysign(x: f64, y: f64) -> f64
     ensures { result ≡ copysign_f x y }
 {
-    let sign = bits_of(y);
-    by_bits(
-        x,
-        move |b|
-            ensures { result ≡ sign / 2 ^ 63 * 2 ^ 63 + b % 2 ^ 63 }
-        { join_sign(sign, b) },
-    )
+    if x.is_nan() {
+        return x;
+    }
+    f64::from_bits(join_sign(bits_of(y), x.to_bits()))
 }
 
 // ---- the whole part and the floor: the bits below the point are cleared
@@ -120,6 +118,7 @@ fn fraction_bits(e: u64) -> u64
 }
 
 // The pattern of the whole part of b's value.
+#[tactic(auto, using(crate::proofs::Clearing::fraction_fits, crate::proofs::Clearing::trunc_cut))]
 fn trunc_bits(b: u64) -> u64
     ensures { from_bits binary64 result ≡ trunc_f (from_bits binary64 b) }
 {
@@ -248,7 +247,7 @@ fn rem_bits(a: u64, b: u64) -> u64
 }
 
 // Rust's `x % y`, for every two, without the C library's fmod.
-#[tactic(auto, using(crate::proofs::Digits::of_nan, crate::proofs::Digits::by_nan, crate::proofs::Digits::of_infinity, crate::proofs::Digits::by_zero, crate::proofs::Digits::by_infinity, crate::proofs::Digits::of_two, crate::proofs::Digits::no_nan_made))]
+#[tactic(auto, using(crate::proofs::Digits::of_nan, crate::proofs::Digits::by_nan, crate::proofs::Digits::of_infinity, crate::proofs::Digits::by_zero, crate::proofs::Digits::by_infinity, crate::proofs::Digits::of_two))]
 fn remainder(x: f64, y: f64) -> f64
     ensures { result ≡ rem binary64 x y }
 {
@@ -260,10 +259,7 @@ fn remainder(x: f64, y: f64) -> f64
     }
     let a = x.to_bits();
     let b = y.to_bits();
-    if exponent(a) == 0x7ff {
-        return f64::NAN;
-    }
-    if without_sign(b) == 0 {
+    if exponent(a) == 0x7ff || without_sign(b) == 0 {
         return f64::NAN;
     }
     if exponent(b) == 0x7ff {

@@ -2,7 +2,7 @@
 use Rattle.std.proofs.Common.{◌≡◌, ℕ, ◌^◌, ◌<◌, sym, ap, ◌∙◌, subst, inl, inr}
 use lib.Ieee.{binary64, of_bits}
 use Rattle.float.specs.Inner.{fraction_bits}
-use Rattle.float.proofs.Clearing.{fraction, fraction-lt, Floor, floor-bits, Below, floor-kept, floor-one, floor-sum}
+use Rattle.float.proofs.Clearing.{fraction, fraction_fits, Floor, floor-bits, Below, floor-kept, floor-one, floor-sum}
 use Rattle.float.proofs.floor_bits.Goals as goal
 use Rattle.float.proofs.floor_bits.Goals.{then-c-b, else-c-b, After-fraction_bits-k, Joined-c-b, Start}
 
@@ -11,7 +11,7 @@ below : (c : After-fraction_bits-k) → c.fraction_bits-k.result ≡ fraction c.
 below c = c.fraction_bits-k.ensures ∙ ap fraction_bits c.exponent.ensures
 
 pub clear_low-c-requires : goal.clear_low-c-requires
-clear_low-c-requires c = subst (λ (k : ℕ). k < 64) (sym (below c)) (fraction-lt c.args.b)
+clear_low-c-requires c = subst (λ (k : ℕ). k < 64) (sym (below c)) (fraction_fits c.args.b)
 
 -- what holds where the bit is known
 module _ (c : Joined-c-b) where
