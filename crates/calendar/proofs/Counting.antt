@@ -120,9 +120,6 @@ unit-counted z n u k e c = mod-counted (floor_div z (suc u)) (n / suc u) k e (di
 
 -- ---- a shown time, counted from 439,010,162 days back, which is 3 modulo 7
 module _ (z : ℤ) (n : ℕ) (c : pos n ≡ z +ℤ pos 37_930_477_996_800_000) where
-  pub count-bound : nat_abs z ≤ 8_640_000_086_399_000 → n ≤ 47_000_000_000_000_000
-  count-bound h = omega (ints, abs-in z h, read (at z +ᵗ at (pos 37930477996800000)))
-
   count-day : pos (n / 86_400_000) ≡ day_of_time z +ℤ pos 439_010_162
   count-day = div-counted z n 86399999 439010162 c
 

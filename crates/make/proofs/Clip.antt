@@ -1,13 +1,13 @@
 -- `time_clip` is TimeClip: of every whole time it is the f64 of what TimeClip gives, and of every f64 it is a time value, so NaN or a whole number in the
 -- range and never -0. Assumes nothing.
 use mathlib.Core.Path.{◌≡◌, refl, sym, ap, ◌∙◌, subst}
-use mathlib.Core.Bool.{Bool, true, false, not, ◌&&◌, false≢true}
+use mathlib.Core.Bool.{Bool, true, false, not, false≢true}
 use Prim.Native.Nat.{◌^◌, ◌≤◌, ◌<◌}
 use native.Mathlib.Nat.{div-one, zero-lt-suc}
 use native.Mathlib.Omega.{arith}
 use lib.Dec.{T, leb, leb→le, nleb→lt, lit<, lit≤}
 use lib.IntN.{ℤ, nat_abs}
-use lib.Ieee.{Float, nan, binary64, fits, lt, eq, of_int}
+use lib.Ieee.{Float, nan, binary64, fits, lt, eq, ne, of_int}
 use lib.Ieee.Bits.{is_true}
 use lib.Ieee.Scale.{finite}
 use Rattle.ecma262.specs.Date.{time_range, InRange, time_clip}
@@ -65,12 +65,13 @@ module _ {t : Float} {z : ℤ} (w : IsWhole t z) where
       (λ n. let r : time_range < nat_abs z = nleb→lt (nat_abs z) time_range n in clip-outside-whole r ∙ ap time_value (sym (clip-outside z r)))
 
 -- a whole time of the range that is not 0 is its own value
-pub clip-own : (t : Float) → T (fits binary64 t) → (not (eq t (num 0)) && is_whole_within (num 8_640_000_000_000_000) t) ≡ true → t ≡ time_clip_f t
-clip-own t f e =
-    let w = within-is 8640000000000000 (lit≤ tt) t f (both (eq t (num 0)) (is_whole_within (num 8640000000000000) t) e).1 in
-    let n = eq_no w.whole (num-whole 0 (lit≤ tt)) (both (eq t (num 0)) (is_whole_within (num 8640000000000000) t) e).0 in
+pub clip-own : (t : Float) → T (fits binary64 t) → ne t (num 0) ≡ true → is_whole_within (num 8_640_000_000_000_000) t ≡ true → t ≡ time_clip_f t
+unfolding ne
+clip-own t f e h =
+    let w = within-is 8640000000000000 (lit≤ tt) t f h in
+    let n = eq_no w.whole (num-whole 0 (lit≤ tt)) (denied (eq t (num 0)) e) in
     int-unique f w.whole (plain-nonzero w.whole n) (omega (arith, w.size)) ∙ sym (clip-inside-whole w.whole w.size)
   where
-    both : (a b : Bool) → (not a && b) ≡ true → (a ≡ false) × (b ≡ true)
-    both true b e = absurd (false≢true e)
-    both false b e = (refl, e)
+    denied : (a : Bool) → not a ≡ true → a ≡ false
+    denied true e = absurd (false≢true e)
+    denied false e = refl

@@ -1,13 +1,15 @@
 -- The whole part of a field, also one that was tested, and the month that a month gives. Of a finite field, whatever its size, the whole part is the whole number
 -- `trunc_z`, nothing rounded; so the month of the year is the remainder by 12, below 12. Assumes nothing.
-use mathlib.Core.Path.{◌≡◌, refl, sym, subst}
-use mathlib.Core.Bool.{Bool, true, false, ◌&&◌, false≢true}
+use Rattle.std.proofs.Common.{Some, None, Less, Equal, Greater}
+use Rattle.std.specs.Ordering.{is_some_and, is_le, partial_le, partial_lt, float_partial_cmp}
+use mathlib.Core.Path.{◌≡◌, refl, sym, ◌∙◌, subst}
+use mathlib.Core.Bool.{Bool, true, false, cond, ◌&&◌, ◌||◌, false≢true}
 use Prim.Native.Nat.{ℕ, ◌<◌, ◌≤◌, ◌^◌}
 use native.Mathlib.Omega.{arith}
 use lib.Dec.{T, lit<, lit≤}
 use lib.IntN.{ℤ, nat_abs}
 use lib.Signed.{◌≤ℤ◌}
-use lib.Ieee.{Float, binary64, fits, le, of_int}
+use lib.Ieee.{Float, binary64, fits, lt, le, eq, of_int}
 use lib.Ieee.Fits.{of_int-fits}
 use lib.Ieee.Scale.{finite}
 use Rattle.integers.specs.Whole.{floor_mod}
@@ -44,6 +46,25 @@ field-int z h = field-whole (of_int-fits binary64 z) (of_int-whole binary64 z h)
 
 pub field-part : {x : Float} {z : ℤ} → IsField x z → IsWhole (whole_part x) z
 field-part {x} f = subst (IsWhole (whole_part x)) f.cut (part-whole x f.format f.number)
+
+-- ---- what a range of two values that it was made of contains
+le-as : (l e g : Bool) → is_some_and is_le (cond l (Some Less) (cond e (Some Equal) (cond g (Some Greater) None))) ≡ (l || e)
+le-as true e g = refl
+le-as false true g = refl
+le-as false false true = refl
+le-as false false false = refl
+
+partial-le : (x y : Float) → partial_le float_partial_cmp x y ≡ le x y
+unfolding le
+partial-le x y = le-as (lt x y) (eq x y) (lt y x)
+
+-- the range's two ends and whether it is spent, as `contains` reads them
+pub in-range : (x : Float) {s e a b : Float} {d r : Bool} → s ≡ a → e ≡ b → d ≡ false
+    → r ≡ (partial_le float_partial_cmp s x && cond d (partial_lt float_partial_cmp x e) (partial_le float_partial_cmp x e)) → r ≡ (le a x && le x b)
+in-range x {s} {e} {a} {b} f g h k =
+    k
+    ∙ (λ i. partial_le float_partial_cmp (f i) x && cond (h i) (partial_lt float_partial_cmp x (g i)) (partial_le float_partial_cmp x (g i)))
+    ∙ (λ i. partial-le a x i && partial-le x b i)
 
 -- ---- a field whose whole part was found to lie between two whole numbers
 pub record Within (x : Float) (least most : ℤ) : Type 0 where

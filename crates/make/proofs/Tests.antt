@@ -2,10 +2,9 @@
 use mathlib.Core.Path.{◌≡◌, refl, sym, ap, ◌∙◌}
 use mathlib.Core.Bool.{Bool, true, false, cond, ◌&&◌}
 use Prim.Native.Nat.{ℕ}
-use lib.Ieee.{Float, nan, binary64, add, sub, mul, lt, le, ne, is_nan, of_bits, of_int}
+use lib.Ieee.{Float, nan, binary64, add, sub, mul, lt, le, is_nan}
 use lib.Ieee.Scale.{finite}
 use Rattle.float.specs.Rounding.{trunc_f, abs_f, to_integer_or_infinity, plus_zero}
-use Rattle.float.proofs.Special.{nan-test}
 use Rattle.calendar.specs.Calendar.{num, day_f}
 use Rattle.make.proofs.Finite.{summand-left, summand-right, factor, uncut}
 use Rattle.make.specs.Make.{whole_part, join_time, make_time_f, year_of_month, month_of_year, month_start_f, day_of_month_f, make_day_f, if_finite, make_date_f, full_year, make_full_year_f, time_clip_f}
@@ -138,24 +137,10 @@ pub full-year-above : (i : Float) → le i (num 99) ≡ false → full_year i �
 unfolding full_year
 full-year-above i e = ap (λ b. cond b (add binary64 (num 1900) i) i) (and-false (le (num 0) i) e)
 
--- the two ways of `make_full_year`'s test, i being the year's integer; 0, 99 and 1900 by their patterns, as the code has them
-abbrev pub from_0 : Float → Bool
-from_0 i = le (of_bits binary64 0) i
-
-abbrev pub upto_99 : Float → Bool
-upto_99 i = le i (of_bits binary64 4636666922610458624)
-
-pub small_year : (y i : Float) → i ≡ to_integer_or_infinity y → ne y y ≡ false → from_0 i ≡ true → upto_99 i ≡ true → add binary64 (of_bits binary64 4656071103817449472) i ≡ make_full_year_f y
-unfolding of_bits of_int
-small_year y i e n a b = sym (full-year-small i a b) ∙ ap full_year e ∙ sym (full-year-number y (sym (nan-test y) ∙ n))
-
-pub year_below : (y i : Float) → i ≡ to_integer_or_infinity y → ne y y ≡ false → from_0 i ≡ false → i ≡ make_full_year_f y
-unfolding of_bits of_int
-year_below y i e n a = sym (full-year-below i a) ∙ ap full_year e ∙ sym (full-year-number y (sym (nan-test y) ∙ n))
-
-pub year_above : (y i : Float) → i ≡ to_integer_or_infinity y → ne y y ≡ false → upto_99 i ≡ false → i ≡ make_full_year_f y
-unfolding of_bits of_int
-year_above y i e n b = sym (full-year-above i b) ∙ ap full_year e ∙ sym (full-year-number y (sym (nan-test y) ∙ n))
+-- by one test
+pub full-year-by : (i : Float) {b : Bool} → b ≡ (le (num 0) i && le i (num 99)) → cond b (add binary64 (num 1900) i) i ≡ full_year i
+unfolding full_year
+full-year-by i e = ap (λ (b : Bool). cond b (add binary64 (num 1900) i) i) e
 
 -- ---- TimeClip
 module _ (t : Float) where

@@ -8,13 +8,7 @@ ghost use Rattle.float.specs.Rounding.{is_whole_within};
 ghost use Rattle.calendar.specs.Calendar.{num};
 ghost use Rattle.make.specs.Make.{whole_part, make_time_f, year_of_month, month_of_year, month_start_f, day_of_month_f, make_day_f, make_date_f, make_full_year_f, time_clip_f};
 
-const MS_PER_SECOND: f64 = 1_000.0;
-
-const MS_PER_MINUTE: f64 = 60_000.0;
-
-const MS_PER_HOUR: f64 = 3_600_000.0;
-
-const MS_PER_DAY: f64 = 86_400_000.0;
+use calendar::{MS_PER_DAY, MS_PER_HOUR, MS_PER_MINUTE, MS_PER_SECOND};
 
 // 𝔽(! ToIntegerOrInfinity(x)), as the makers work it out, by the original's three steps; of a negative fraction it is -0. A whole number, as
 // nearly always, is its own whole part.
@@ -47,7 +41,7 @@ pub fn make_time(hour: f64, min: f64, sec: f64, ms: f64) -> f64
         || !float::is_finite(sec)
         || !float::is_finite(ms)
     {
-        return 0.0 / 0.0;
+        return f64::NAN;
     }
     sum
 }
@@ -73,7 +67,7 @@ fn month_start(ym: f64, mn: u8) -> f64
     ensures { result ≡ month_start_f ym mn }
 {
     let rest = if mn > 1 { 1.0 } else { 0.0 };
-    let days = calendar::days_before(0, mn as u32) as f64;
+    let days = f64::from(calendar::days_before(false, u32::from(mn)));
     (calendar::day_from_year(ym + rest) - 365.0 * rest + days) * MS_PER_DAY
 }
 
@@ -86,7 +80,7 @@ fn day_of_month(y: f64, m: f64, dt: f64) -> f64
     let ym = year_of_month(y, m);
     // 6. If ym is not finite, return NaN.
     if !float::is_finite(ym) {
-        return 0.0 / 0.0;
+        return f64::NAN;
     }
     // 7. Let mn be 𝔽(ℝ(m) modulo 12).
     let mn = month_of_year(m);
@@ -94,16 +88,6 @@ fn day_of_month(y: f64, m: f64, dt: f64) -> f64
     let t = month_start(ym, mn);
     // 9. Return Day(t) + dt - 1𝔽.
     calendar::day(t) + dt - 1.0
-}
-
-// Whether x lies from `least` to `most`; a NaN does not.
-fn is_within(x: f64, least: f64, most: f64) -> bool
-    ensures { result ≡ (le least x && le x most) }
-{
-    if least <= x {
-        return x <= most;
-    }
-    false
 }
 
 // MakeDay(year, month, date)
@@ -115,16 +99,16 @@ pub fn make_day(year: f64, month: f64, date: f64) -> f64
     let m = whole_part(month);
     let dt = whole_part(date);
     // In the exact domain nothing is rounded, so that the steps may be taken in integers: here with a month within its year. A NaN passes no test.
-    if is_within(y, -280_000.0, 280_000.0)
-        && is_within(m, 0.0, 11.0)
-        && is_within(dt, -1_000_000.0, 1_000_000.0)
+    if (-280_000.0..=280_000.0).contains(&y)
+        && (0.0..=11.0).contains(&m)
+        && (-1_000_000.0..=1_000_000.0).contains(&dt)
     {
         let mn = float::exact_i64(m) as u32;
         return calendar::day_number(float::exact_i64(y), mn, float::exact_i64(dt)) as f64;
     }
     // 1. If year is not finite, month is not finite, or date is not finite, return NaN.
     if !float::is_finite(year) || !float::is_finite(month) || !float::is_finite(date) {
-        return 0.0 / 0.0;
+        return f64::NAN;
     }
     // 5. to 9.
     day_of_month(y, m, dt)
@@ -138,56 +122,45 @@ pub fn make_date(day: f64, time: f64) -> f64
     let tv = day * MS_PER_DAY + time;
     // 1. If day is not finite or time is not finite, return NaN. 3. If tv is not finite, return NaN. Of such a day or time tv is not finite.
     if !float::is_finite(tv) {
-        return 0.0 / 0.0;
+        return f64::NAN;
     }
     // 4. Return tv.
     tv
 }
 
 // MakeFullYear(year)
-#[tactic(auto, using(crate::proofs::Tests::small_year, crate::proofs::Tests::year_below, crate::proofs::Tests::year_above))]
 pub fn make_full_year(year: f64) -> f64
     ensures { result ≡ make_full_year_f year }
 {
     // 1. If year is NaN, return NaN.
-    if year != year {
-        return 0.0 / 0.0;
+    if year.is_nan() {
+        return f64::NAN;
     }
     // 2. Let truncated be ! ToIntegerOrInfinity(year).
     let truncated = float::to_integer_or_infinity(year);
     // 3. If truncated is in the inclusive interval from 0 to 99, return 1900𝔽 + 𝔽(truncated).
-    if 0.0 <= truncated && truncated <= 99.0 {
+    if (0.0..=99.0).contains(&truncated) {
         return 1900.0 + truncated;
     }
     // 4. Return 𝔽(truncated).
     truncated
 }
 
-// Whether x is a whole number of the range, and not 0.
-fn is_own_value(x: f64) -> bool
-    ensures { result ≡ (not (eq x (num 0)) && is_whole_within (num 8_640_000_000_000_000) x) }
-{
-    if x == 0.0 {
-        return false;
-    }
-    float::is_whole_within(x, 8_640_000_000_000_000.0)
-}
-
 // TimeClip(time)
 pub fn time_clip(time: f64) -> f64
     ensures { result ≡ time_clip_f time }
 {
-    // Such a time, as nearly always, is its own value.
-    if is_own_value(time) {
+    // A whole time of the range that is not 0, as nearly always, is its own value.
+    if time != 0.0 && float::is_whole_within(time, 8_640_000_000_000_000.0) {
         return time;
     }
     // 1. If time is not finite, return NaN.
     if !float::is_finite(time) {
-        return 0.0 / 0.0;
+        return f64::NAN;
     }
     // 2. If abs(ℝ(time)) > 8.64 × 10**15, return NaN.
     if float::abs(time) > 8_640_000_000_000_000.0 {
-        return 0.0 / 0.0;
+        return f64::NAN;
     }
     // 3. Return 𝔽(! ToIntegerOrInfinity(time)).
     let whole = float::trunc(time);

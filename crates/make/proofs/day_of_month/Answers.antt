@@ -4,13 +4,13 @@ use lib.Ieee.{binary64, add, sub, of_bits, of_int}
 use lib.Ieee.Scale.{finite}
 use Rattle.calendar.specs.Calendar.{num, day_f}
 use Rattle.make.specs.Make.{month_start_f}
-use Rattle.float.proofs.Special.{made-nan}
 use Rattle.make.proofs.Tests.{off, on, day-of-month-not-finite, day-of-month-finite}
 use Rattle.make.proofs.day_of_month.Goals as goal
 
 pub returns-then-not-is_finite : goal.returns-then-not-is_finite
+unfolding of_bits of_int
 returns-then-not-is_finite c =
-    made-nan ∙ sym (day-of-month-not-finite _ _ _ (ap finite (sym c.year_of_month-ym.ensures) ∙ off c.is_finite.ensures c.if-not-is_finite.true))
+    sym (day-of-month-not-finite _ _ _ (ap finite (sym c.year_of_month-ym.ensures) ∙ off c.is_finite.ensures c.if-not-is_finite.true))
 
 pub returns : goal.returns
 unfolding of_bits of_int

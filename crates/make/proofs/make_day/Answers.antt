@@ -20,15 +20,14 @@ use Rattle.integers.proofs.Machine.{true-T, kept}
 use Rattle.float.specs.Whole.{IsWhole, trunc_z, WholeWithin}
 use Rattle.float.proofs.Whole.{neg-whole}
 use Rattle.float.proofs.Casts.{int-in-float}
-use Rattle.float.proofs.Special.{made-nan}
 use Rattle.calendar.proofs.Whole.{num-whole}
 use Rattle.make.specs.Make.{whole_part, year_of_month, month_of_year, day_of_month_f}
 use Rattle.make.proofs.Tests.{off, on, year-not-finite, month-not-finite, date-not-finite, make-day-finite}
-use Rattle.make.proofs.Parts.{part-whole, Within, within, part-within, month-small}
+use Rattle.make.proofs.Parts.{part-whole, Within, in-range, within, part-within, month-small}
 use Rattle.make.proofs.Exact.{make-day-int, month-within-exact}
 use Rattle.make.proofs.make_day.Goals as goal
 use Rattle.make.proofs.make_day.Goals.{then-not-is_finite-via-then-not-is_finite, then-not-is_finite-via-else-not-is_finite+then-not-is_finite-2, then-not-is_finite-via-else-not-is_finite+else-not-is_finite-2+then-not-is_finite-3}
-use Rattle.make.proofs.make_day.Goals.{After-day_number, After-exact_i64, After-exact_i64-mn, After-exact_i64-then-is_within-3, After-whole_part-dt, Else-not-is_finite-2, Start, Then-is_within-3}
+use Rattle.make.proofs.make_day.Goals.{After-day_number, After-exact_i64, After-exact_i64-mn, After-exact_i64-then-contains-3, Else-not-is_finite-2, Then-contains-3}
 
 -- ---- a field x whose whole part p passed its test r, and p as an integer
 module _ {x p : Float} (e : p ≡ whole_part x) where
@@ -41,61 +40,58 @@ module _ {x p : Float} (e : p ≡ whole_part x) where
   given : {z w : ℤ} → Within x z w → nat_abs (trunc_z x) ≤ 1_000_000 → {r : ℤ} → r ≡ trunc_z p → SFits w64 r → to_z w64 (of_z w64 r) ≡ trunc_z x
   given i h f k = kept k ∙ f ∙ ap trunc_z e ∙ (part-within i.field h).1
 
-module _ (c : Then-is_within-3) where
-  abbrev at : After-whole_part-dt
-  at = c.before.before.before.before.before.before
-
-  abbrev s : Start
-  s = at.before.before.before
-
-  year-in : Within s.args.year (neg_ℤ (pos 280_000)) (pos 280_000)
+module _ (c : Then-contains-3) where
+  year-in : Within c.args.year (neg_ℤ (pos 280_000)) (pos 280_000)
   unfolding of_bits of_int
   year-in =
-      passed c.whole_part-y.ensures (true-T (fits binary64 s.args.year) s.well_formed.0.1) (neg-whole (num-whole 280000 (lit≤ tt))) (num-whole 280000 (lit≤ tt))
-      c.is_within.ensures c.if-is_within.true
+      let r = c.new.ensures in
+      passed c.whole_part-y.ensures (true-T (fits binary64 c.args.year) c.well_formed.0.1) (neg-whole (num-whole 280000 (lit≤ tt))) (num-whole 280000 (lit≤ tt))
+      (in-range c.whole_part-y.result r.start r.end r.exhausted c.contains.ensures.value) c.if-contains.true
 
-  month-in : Within s.args.month (pos 0) (pos 11)
+  month-in : Within c.args.month (pos 0) (pos 11)
   unfolding of_bits of_int
   month-in =
-      passed c.whole_part-m.ensures (true-T (fits binary64 s.args.month) s.well_formed.1.0.1) (num-whole 0 (lit≤ tt)) (num-whole 11 (lit≤ tt))
-      c.is_within-then-is_within.ensures c.if-is_within-2.true
+      let r = c.new-then-contains.ensures in
+      passed c.whole_part-m.ensures (true-T (fits binary64 c.args.month) c.well_formed.1.0.1) (num-whole 0 (lit≤ tt)) (num-whole 11 (lit≤ tt))
+      (in-range c.whole_part-m.result r.start r.end r.exhausted c.contains-then-contains.ensures.value) c.if-contains-2.true
 
-  date-in : Within s.args.date (neg_ℤ (pos 1_000_000)) (pos 1_000_000)
+  date-in : Within c.args.date (neg_ℤ (pos 1_000_000)) (pos 1_000_000)
   unfolding of_bits of_int
   date-in =
-      passed c.whole_part-dt.ensures (true-T (fits binary64 s.args.date) s.well_formed.1.1.0.1) (neg-whole (num-whole 1000000 (lit≤ tt))) (num-whole 1000000 (lit≤ tt))
-      c.is_within-then-is_within-2.ensures c.if-is_within-3.true
+      let r = c.new-then-contains-2.ensures in
+      passed c.whole_part-dt.ensures (true-T (fits binary64 c.args.date) c.well_formed.1.1.0.1) (neg-whole (num-whole 1000000 (lit≤ tt))) (num-whole 1000000 (lit≤ tt))
+      (in-range c.whole_part-dt.result r.start r.end r.exhausted c.contains-then-contains-2.ensures.value) c.if-contains-3.true
 
-  year-size : nat_abs (trunc_z s.args.year) ≤ 280_000
-  year-size = abs-out (trunc_z s.args.year) (omega (ints, year-in.from, year-in.upto))
+  year-size : nat_abs (trunc_z c.args.year) ≤ 280_000
+  year-size = abs-out (trunc_z c.args.year) (omega (ints, year-in.from, year-in.upto))
 
-  month-size : nat_abs (trunc_z s.args.month) ≤ 11
-  month-size = abs-out (trunc_z s.args.month) (omega (ints, month-in.from, month-in.upto))
+  month-size : nat_abs (trunc_z c.args.month) ≤ 11
+  month-size = abs-out (trunc_z c.args.month) (omega (ints, month-in.from, month-in.upto))
 
-  date-size : nat_abs (trunc_z s.args.date) ≤ 1_000_000
-  date-size = abs-out (trunc_z s.args.date) (omega (ints, date-in.from, date-in.upto))
+  date-size : nat_abs (trunc_z c.args.date) ≤ 1_000_000
+  date-size = abs-out (trunc_z c.args.date) (omega (ints, date-in.from, date-in.upto))
 
   -- a month from 0 on
-  month-own : trunc_z s.args.month ≡ pos (nat_abs (trunc_z s.args.month))
-  month-own = let e = natural (trunc_z s.args.month) month-in.from in e ∙ ap (λ (z : ℤ). pos (nat_abs z)) (sym e)
+  month-own : trunc_z c.args.month ≡ pos (nat_abs (trunc_z c.args.month))
+  month-own = let e = natural (trunc_z c.args.month) month-in.from in e ∙ ap (λ (z : ℤ). pos (nat_abs z)) (sym e)
 
-  exact : ExactDay (trunc_z s.args.year) (trunc_z s.args.month) (trunc_z s.args.date)
-  exact = month-within-exact (trunc_z s.args.year) (trunc_z s.args.month) (trunc_z s.args.date) year-size month-in.from month-in.upto date-size
+  exact : ExactDay (trunc_z c.args.year) (trunc_z c.args.month) (trunc_z c.args.date)
+  exact = month-within-exact (trunc_z c.args.year) (trunc_z c.args.month) (trunc_z c.args.date) year-size month-in.from month-in.upto date-size
 
 -- ---- the integers
-month-read : (c : After-exact_i64-mn) → to_z w64 (of_z w64 c.exact_i64-mn.result) ≡ trunc_z (s c.before).args.month
+month-read : (c : After-exact_i64-mn) → to_z w64 (of_z w64 c.exact_i64-mn.result) ≡ trunc_z c.args.month
 month-read c =
     given c.whole_part-m.ensures (month-in c.before) (omega (arith, month-size c.before)) c.exact_i64-mn.ensures (record { sfits = c.exact_i64-mn.type_inv })
 
-year-read : (c : After-exact_i64) → to_z w64 (of_z w64 c.exact_i64.result) ≡ trunc_z (s c.before.before).args.year
+year-read : (c : After-exact_i64) → to_z w64 (of_z w64 c.exact_i64.result) ≡ trunc_z c.args.year
 year-read c =
     given c.whole_part-y.ensures (year-in c.before.before) (omega (arith, year-size c.before.before)) c.exact_i64.ensures (record { sfits = c.exact_i64.type_inv })
 
-date-read : (c : After-exact_i64-then-is_within-3) → to_z w64 (of_z w64 c.exact_i64-then-is_within-3.result) ≡ trunc_z (s c.before.before.before).args.date
+date-read : (c : After-exact_i64-then-contains-3) → to_z w64 (of_z w64 c.exact_i64-then-contains-3.result) ≡ trunc_z c.args.date
 date-read c =
-    given c.whole_part-dt.ensures (date-in c.before.before.before) (date-size c.before.before.before) c.exact_i64-then-is_within-3.ensures (record { sfits = c.exact_i64-then-is_within-3.type_inv })
+    given c.whole_part-dt.ensures (date-in c.before.before.before) (date-size c.before.before.before) c.exact_i64-then-contains-3.ensures (record { sfits = c.exact_i64-then-contains-3.type_inv })
 
-day-read : (c : After-day_number) → let a = (s c.before.before.before.before).args in
+day-read : (c : After-day_number) → let a = c.args in
     to_z w64 (of_z w64 c.day_number.result) ≡ make_day (trunc_z a.year) (trunc_z a.month) (trunc_z a.date)
 day-read c =
     let own = ap (λ (z : ℤ). pos (nat_abs z)) (month-read c.before.before.before) ∙ sym (month-own c.before.before.before.before) in
@@ -112,8 +108,8 @@ pub exact_i64-requires : goal.exact_i64-requires
 exact_i64-requires c =
     taken c.whole_part-y.ensures (year-in c.before) (omega (arith, year-size c.before))
 
-pub exact_i64-requires-then-is_within-3 : goal.exact_i64-requires-then-is_within-3
-exact_i64-requires-then-is_within-3 c =
+pub exact_i64-requires-then-contains-3 : goal.exact_i64-requires-then-contains-3
+exact_i64-requires-then-contains-3 c =
     taken c.whole_part-dt.ensures (date-in c.before.before) (date-size c.before.before)
 
 pub day_number-requires : goal.day_number-requires
@@ -128,15 +124,15 @@ int_to_float-result c =
     subst (λ (z : ℤ). T (in_float binary64 z)) (sym (day-read c.before))
     (int-in-float _ (omega (arith, make-day-range _ _ _ (exact c.before.before.before.before.before))))
 
-pub returns-then-is_within-3 : goal.returns-then-is_within-3
-returns-then-is_within-3 c =
+pub returns-then-contains-3 : goal.returns-then-contains-3
+returns-then-contains-3 c =
     ap (of_int binary64) (day-read c.before) ∙ sym (make-day-int (year-in c.before.before.before.before.before).field (month-in c.before.before.before.before.before).field (date-in c.before.before.before.before.before).field (exact c.before.before.before.before.before))
 
 pub returns-then-not-is_finite : goal.returns-then-not-is_finite
+unfolding of_bits of_int
 returns-then-not-is_finite c =
     let a = c.args in
-    made-nan
-    ∙ sym (elim c.then-not-is_finite.branch [
+    sym (elim c.then-not-is_finite.branch [
       | then-not-is_finite-via-then-not-is_finite w ↦ year-not-finite a.year a.month a.date (off c.is_finite.ensures w.if-not-is_finite.true)
       | then-not-is_finite-via-else-not-is_finite+then-not-is_finite-2 w ↦
           month-not-finite a.year a.month a.date (off w.is_finite-else-not-is_finite.ensures w.if-not-is_finite-2.true)

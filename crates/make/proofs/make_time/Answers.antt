@@ -2,7 +2,6 @@
 use mathlib.Core.Path.{◌≡◌, sym, ap, ◌∙◌}
 use lib.Ieee.{of_bits, of_int}
 use lib.Ieee.Scale.{finite}
-use Rattle.float.proofs.Special.{made-nan}
 use Rattle.make.specs.Make.{whole_part, join_time}
 use Rattle.make.proofs.Tests.{off, on, hour-not-finite, minute-not-finite, second-not-finite, milli-not-finite, make-time-finite, make-time-sum}
 use Rattle.make.proofs.make_time.Goals as goal
@@ -23,10 +22,10 @@ returns-then-is_finite c =
     summed c.before.before ∙ sym (make-time-sum a.hour a.min a.sec a.ms (ap finite (sym (summed c.before.before)) ∙ sym c.is_finite.ensures ∙ c.if-is_finite.true))
 
 pub returns-then-not-is_finite : goal.returns-then-not-is_finite
+unfolding of_bits of_int
 returns-then-not-is_finite c =
     let a = c.args in
-    made-nan
-    ∙ sym (elim c.then-not-is_finite.branch [
+    sym (elim c.then-not-is_finite.branch [
       | then-not-is_finite-via-then-not-is_finite w ↦ hour-not-finite a.hour a.min a.sec a.ms (off c.is_finite-2.ensures w.if-not-is_finite.true)
       | then-not-is_finite-via-else-not-is_finite+then-not-is_finite-2 w ↦
           minute-not-finite a.hour a.min a.sec a.ms (off w.is_finite-else-not-is_finite.ensures w.if-not-is_finite-2.true)

@@ -21,15 +21,16 @@ passed c =
     ]
 
 -- the month's start by its parts
-started : (ym : Float) (mn : ℕ) (r d : Float) (n : ℕ) → r ≡ num (rest mn) → d ≡ day_from_year_f (add binary64 ym r) → n ≡ days_before 0 mn
-    → mul binary64 (add binary64 (sub binary64 d (mul binary64 (num 365) r)) (num n)) (num 86400000) ≡ month_start_f ym mn
+started : (ym : Float) (mn : ℕ) (r d b : Float) → r ≡ num (rest mn) → d ≡ day_from_year_f (add binary64 ym r) → b ≡ num (days_before 0 mn)
+    → mul binary64 (add binary64 (sub binary64 d (mul binary64 (num 365) r)) b) (num 86400000) ≡ month_start_f ym mn
 unfolding month_start_f
-started ym mn r d n e f g =
+started ym mn r d b e f g =
     let day = f ∙ ap (λ (x : Float). day_from_year_f (add binary64 ym x)) e in
-    λ i. mul binary64 (add binary64 (sub binary64 (day i) (mul binary64 (num 365) (e i))) (num (g i))) (num 86400000)
+    λ i. mul binary64 (add binary64 (sub binary64 (day i) (mul binary64 (num 365) (e i))) (g i)) (num 86400000)
 
 pub returns : goal.returns
 unfolding of_bits of_int
 returns c =
     let a = c.args in
-    started a.ym a.mn _ _ _ (passed c.before.before.before) c.day_from_year.ensures c.days_before-days.ensures
+    started a.ym a.mn _ _ _ (passed c.before.before.before.before) c.day_from_year.ensures
+    (c.from-days.ensures ∙ ap num (c.days_before.ensures ∙ ap (days_before 0) c.from.ensures))

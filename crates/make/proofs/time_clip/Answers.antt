@@ -5,25 +5,26 @@ use lib.Ieee.{binary64, fits, lt, eq, of_bits, of_int}
 use Rattle.integers.proofs.Machine.{true-T}
 use Rattle.float.specs.Rounding.{trunc_f, abs_f}
 use Rattle.calendar.specs.Calendar.{num}
-use Rattle.float.proofs.Special.{made-nan}
 use Rattle.make.proofs.Clip.{clip-own}
 use Rattle.make.proofs.Tests.{off, on, clip-not-finite, clip-beyond, clip-within}
 use Rattle.make.proofs.time_clip.Goals as goal
 
-pub returns-then-is_own_value : goal.returns-then-is_own_value
-returns-then-is_own_value c =
-    clip-own c.args.time (true-T (fits binary64 c.args.time) c.well_formed.0.1) (sym c.is_own_value.ensures ∙ c.if-is_own_value.true)
+pub returns-then-is_whole_within : goal.returns-then-is_whole_within
+unfolding of_bits of_int
+returns-then-is_whole_within c =
+    let t = c.args.time in
+    clip-own t (true-T (fits binary64 t) c.well_formed.0.1) c.if-time.true (sym c.is_whole_within.ensures ∙ c.if-is_whole_within.true)
 
 pub returns-then-not-is_finite : goal.returns-then-not-is_finite
+unfolding of_bits of_int
 returns-then-not-is_finite c =
-    made-nan ∙ sym (clip-not-finite c.args.time (off c.is_finite.ensures c.if-not-is_finite.true))
+    sym (clip-not-finite c.args.time (off c.is_finite.ensures c.if-not-is_finite.true))
 
 pub returns-then-abs : goal.returns-then-abs
 unfolding of_bits of_int
 returns-then-abs c =
     let t = c.args.time in
-    made-nan
-    ∙ sym (clip-beyond t (on c.is_finite.ensures c.if-not-is_finite.false) (ap (lt (num 8640000000000000)) (sym c.abs.ensures) ∙ c.if-abs.true))
+    sym (clip-beyond t (on c.is_finite.ensures c.if-not-is_finite.false) (ap (lt (num 8640000000000000)) (sym c.abs.ensures) ∙ c.if-abs.true))
 
 pub returns-then-abs-2 : goal.returns-then-abs-2
 unfolding of_bits of_int

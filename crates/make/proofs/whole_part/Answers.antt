@@ -1,9 +1,8 @@
 -- `make::whole_part` meets its contract: the three steps together are `trunc`, which leaves a whole number as it is. Assumes nothing.
-use mathlib.Core.Path.{sym, ap, ◌∙◌}
+use mathlib.Core.Path.{sym, ◌∙◌}
 use lib.Dec.{lit≤}
-use lib.Ieee.{Float, of_bits, of_int}
+use lib.Ieee.{of_bits, of_int}
 use Rattle.integers.proofs.Machine.{true-T}
-use Rattle.float.specs.Rounding.{floor_f, copysign_f}
 use Rattle.float.proofs.Rounding.{trunc-own, trunc-by-floor}
 use Rattle.float.proofs.Within.{within-is}
 use Rattle.make.proofs.whole_part.Goals as goal
@@ -14,7 +13,3 @@ returns-then-is_whole_within c =
     let f = true-T _ c.well_formed.0.1 in
     let w = within-is 9007199254740992 (lit≤ tt) c.args.x f (sym c.is_whole_within.ensures ∙ c.if-is_whole_within.true) in
     sym (trunc-by-floor c.args.x ∙ trunc-own f w.whole)
-
-pub returns : goal.returns
-returns c =
-    c.copysign.ensures ∙ ap (λ (y : Float). copysign_f y c.args.x) (c.floor.ensures ∙ ap floor_f c.abs.ensures)
