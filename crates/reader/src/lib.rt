@@ -5,8 +5,8 @@
 #![tactic(auto)]
 
 ghost use Rattle.std.specs.Prelude.{◌≡◌, ◌+◌, ◌-◌, ◌*◌, ◌≤◌, ◌<◌, pos, nat_abs};
-ghost use Rattle.ecma262.specs.Date.{make_day, make_date};
-ghost use Rattle.ecma262.specs.Format.{year_number, date_fields, time_fields, YearBounds, DateBounds, TimeBounds, ZoneBounds, Bounds};
+ghost use Rattle.ecma262.specs.Date.{make_day, make_date, time_of};
+ghost use Rattle.ecma262.specs.Format.{year_number, date_fields, time_fields, form_fields, form_zone, YearBounds, DateBounds, TimeBounds, ZoneBounds, Bounds};
 ghost use Rattle.zone.specs.Zone.{records};
 ghost use Rattle.local.specs.Local.{utc_time};
 ghost use Rattle.parser.specs.Inner.{as_year, as_date, as_time, as_zone, as_form};
@@ -14,7 +14,7 @@ ghost use Rattle.reader.specs.Denotes.{less_written, less_offset, instant_of};
 ghost use Rattle.reader.specs.Outcome.{refusal_of, answer_at, read_outcome};
 
 use answer::Refusal;
-use parser::{Date, Fault, Form, Parsed, Time, Year, Zone};
+use parser::{Date, Fault, Form, Time, Year, Zone};
 use zone::ZoneList;
 
 // The year as written, with its sign.
@@ -23,47 +23,28 @@ fn year_number(y: Year) -> i64
     ensures { (result ≡ year_number (as_year y)) × (nat_abs result ≤ 1_000_000) }
 {
     match y {
-        Year::Four(year) => year as i64,
-        Year::Six { negative, year } => {
-            if negative {
-                0 - year as i64
-            } else {
-                year as i64
-            }
-        }
+        Year::Four(year) => i64::from(year),
+        Year::Six {
+            negative: false,
+            year,
+        } => i64::from(year),
+        Year::Six {
+            negative: true,
+            year,
+        } => -i64::from(year),
     }
 }
 
-// Its month from 0, an absent one being January.
-fn month_of(d: Date) -> u32
+// Its month from 0 and its day as written, an absent one being the first.
+fn month_and_day(d: Date) -> (u32, u32)
     requires { DateBounds (as_date d) }
-    ensures { (result ≡ (date_fields (as_date d)).month - 1) × (result < 12) }
+    ensures { (result.0 ≡ (date_fields (as_date d)).month - 1) × (result.0 < 12) × (result.1 ≡ (date_fields (as_date d)).day) × (result.1 ≤ 31) }
 {
     match d {
-        Date::ToYear => 0,
-        Date::ToMonth(month) => month - 1,
-        Date::ToDay { month, day: _ } => month - 1,
+        Date::ToYear => (0, 1),
+        Date::ToMonth(month) => (month - 1, 1),
+        Date::ToDay { month, day } => (month - 1, day),
     }
-}
-
-// Its day as written, an absent one being the first.
-fn date_of(d: Date) -> u32
-    requires { DateBounds (as_date d) }
-    ensures { (result ≡ (date_fields (as_date d)).day) × (result ≤ 31) }
-{
-    match d {
-        Date::ToYear => 1,
-        Date::ToMonth(_) => 1,
-        Date::ToDay { month: _, day } => day,
-    }
-}
-
-// MakeDay of the fields.
-fn day_of(y: Year, d: Date) -> i64
-    requires { YearBounds (as_year y) × DateBounds (as_date d) }
-    ensures { (result ≡ make_day (year_number (as_year y)) (pos ((date_fields (as_date d)).month - 1)) (pos (date_fields (as_date d)).day)) × (nat_abs result ≤ 402_000_000) }
-{
-    calendar::day_number(year_number(y), month_of(d), date_of(d) as i64)
 }
 
 // MakeTime of the fields.
@@ -94,12 +75,68 @@ fn clock_count(t: Time) -> u32
     }
 }
 
-// MakeDate of the day and the time.
-fn fields_time(y: Year, d: Date, time: u32) -> i64
-    requires { YearBounds (as_year y) × DateBounds (as_date d) × (time < 100_000_000) }
-    ensures { (result ≡ make_date (make_day (year_number (as_year y)) (pos ((date_fields (as_date d)).month - 1)) (pos (date_fields (as_date d)).day)) (pos time)) × (nat_abs result ≤ 37_000_000_000_000_000) }
+// A form's fields, an absent one at its default: the day of the month as written, and the milliseconds of the day.
+#[derive(Clone, Copy)]
+struct Fields {
+    year: i64,
+    month: u32,
+    day: u32,
+    time: u32,
+    ghost year_small: { nat_abs year ≤ 1_000_000 },
+    ghost month_small: { month < 12 },
+    ghost day_small: { day ≤ 31 },
+    ghost time_small: { time < 100_000_000 },
+}
+
+impl Fields {
+    // The fields as written, of a year, a date and a number of milliseconds.
+    fn at(y: Year, d: Date, time: u32) -> Fields
+        requires { YearBounds (as_year y) × DateBounds (as_date d) × (time < 100_000_000) }
+        ensures { (result.year ≡ year_number (as_year y)) × (result.month ≡ (date_fields (as_date d)).month - 1) × (result.day ≡ (date_fields (as_date d)).day) × (result.time ≡ time) }
+    {
+        let (month, day) = month_and_day(d);
+        Fields {
+            year: year_number(y),
+            month,
+            day,
+            time,
+        }
+    }
+
+    fn of(form: Form) -> Fields
+        requires { Bounds (as_form form) }
+        ensures { make_date (make_day result.year (pos result.month) (pos result.day)) (pos result.time) ≡ time_of (form_fields (as_form form)) }
+    {
+        match form {
+            Form::Date(y, d) => Fields::at(y, d, 0),
+            Form::Timed(y, d, t, _) => Fields::at(y, d, clock_count(t)),
+        }
+    }
+
+    // MakeDay of the fields.
+    fn day_number(self) -> i64
+        ensures { (result ≡ make_day self.year (pos self.month) (pos self.day)) × (nat_abs result ≤ 402_000_000) }
+    {
+        calendar::day_number(self.year, self.month, i64::from(self.day))
+    }
+
+    // MakeDate of the day and the time.
+    fn time(self) -> i64
+        ensures { (result ≡ make_date (make_day self.year (pos self.month) (pos self.day)) (pos self.time)) × (nat_abs result ≤ 37_000_000_000_000_000) }
+    {
+        self.day_number() * 86_400_000 + i64::from(self.time)
+    }
+}
+
+// The zone of a form, a date alone being UTC.
+fn zone_of(form: Form) -> Zone
+    requires { Bounds (as_form form) }
+    ensures { (as_zone result ≡ form_zone (as_form form)) × ZoneBounds (as_zone result) }
 {
-    day_of(y, d) * 86_400_000 + time as i64
+    match form {
+        Form::Date(..) => Zone::Zulu,
+        Form::Timed(_, _, _, z) => z,
+    }
 }
 
 // The time t of the fields, less an offset of that sign, hour and minute: `+01:00` is ahead, so its instant is earlier.
@@ -107,7 +144,7 @@ fn less_offset(t: i64, negative: bool, hour: u32, minute: u32) -> i64
     requires { (nat_abs t ≤ 37_000_000_000_000_000) × (hour ≤ 23) × (minute ≤ 59) }
     ensures { result ≡ less_written negative hour minute t }
 {
-    let ms = clock(hour, minute, 0, 0) as i64;
+    let ms = i64::from(clock(hour, minute, 0, 0));
     if negative { t + ms } else { t - ms }
 }
 
@@ -141,13 +178,7 @@ fn instant_of(zone: ZoneList, form: Form) -> i64
     requires { Bounds (as_form form) }
     ensures { result ≡ instant_of (records zone.entry.bytes.now) (as_form form) }
 {
-    match form {
-        Form::Date(y, d) => fields_time(y, d, 0),
-        Form::Timed(y, d, t, z) => {
-            let time = clock_count(t);
-            less_zone(zone, fields_time(y, d, time), z)
-        }
-    }
+    less_zone(zone, Fields::of(form).time(), zone_of(form))
 }
 
 // The answer for an instant: the range is 8,640,000,000,000,000 either way.
@@ -180,7 +211,7 @@ pub fn read(zone: &[u8], text: &[u8]) -> Result<u64, Refusal>
         return Err(Refusal::ZoneList);
     };
     match text_reader::parse_text(text) {
-        Parsed::Refused(f) => Err(refusal_of(f)),
-        Parsed::Read(form) => answer_at(instant_of(list, form)),
+        Err(f) => Err(refusal_of(f)),
+        Ok(form) => answer_at(instant_of(list, form)),
     }
 }

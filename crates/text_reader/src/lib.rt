@@ -6,10 +6,28 @@ ghost use Rattle.std.specs.Prelude.{◌≡◌, ◌≤◌, length, drop};
 ghost use Rattle.parser.specs.Reading.{read};
 ghost use Rattle.parser.specs.Inner.{as_reading};
 
+use parser::{Fault, Form};
+
 #[derive(Clone, Copy)]
 pub struct Reader<'a> {
     pub text: &'a [u8],
     pub at: usize,
+}
+
+impl<'a> Reader<'a> {
+    // The reader at the start of a text.
+    pub fn new(text: &'a [u8]) -> Reader<'a>
+        ensures { (result.text ≡ text.entry) × (result.at ≡ 0) }
+    {
+        Reader { text, at: 0 }
+    }
+
+    // The form of all that is left.
+    pub fn parse(self) -> Result<Form, Fault>
+        ensures { as_reading result ≡ read (drop self.entry.at self.entry.text.now) }
+    {
+        parse_at(self.text, self.at)
+    }
 }
 
 // ---- the work, on a plain text and an index
@@ -18,36 +36,20 @@ pub struct Reader<'a> {
 fn within(text: &[u8], at: usize) -> usize
     ensures { (result ≤ length text.now) × (drop result text.now ≡ drop at text.now) }
 {
-    if at < text.len() { at } else { text.len() }
+    at.min(text.len())
 }
 
 // The form of a text from an index on, or the first fault.
-pub fn parse_at(text: &[u8], at: usize) -> parser::Parsed
+pub fn parse_at(text: &[u8], at: usize) -> Result<Form, Fault>
     ensures { as_reading result ≡ read (drop at text.now) }
 {
     let from = within(text, at);
     parser::parse(&text[from..])
 }
 
-// ---- the reader
-
-// The reader at the start of a text.
-pub fn new<'a>(text: &'a [u8]) -> Reader<'a>
-    ensures { (result.text ≡ text.entry) × (result.at ≡ 0) }
-{
-    Reader { text, at: 0 }
-}
-
-// The form of all that is left.
-pub fn parse<'a>(r: Reader<'a>) -> parser::Parsed
-    ensures { as_reading result ≡ read (drop r.entry.at r.entry.text.now) }
-{
-    parse_at(r.text, r.at)
-}
-
 // From a plain text to a reader and back.
-pub fn parse_text(text: &[u8]) -> parser::Parsed
+pub fn parse_text(text: &[u8]) -> Result<Form, Fault>
     ensures { as_reading result ≡ read text.now }
 {
-    parse(new(text))
+    Reader::new(text).parse()
 }

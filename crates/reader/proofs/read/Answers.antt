@@ -25,15 +25,15 @@ pub returns-in_default : goal.returns-in_default
 returns-in_default c = list-refused _ _ (sym c.accept.ensures.decided ∙ ap is_some c.in_default.is)
 
 pub instant_of-requires : goal.instant_of-requires
-instant_of-requires c = (read-printed c.args.text.now (as_form c.in-Read.form) (sym c.parse_text.ensures ∙ ap as_reading c.in-Read.is)).bounds
+instant_of-requires c = (read-printed c.args.text.now (as_form c.in-Ok.form) (sym c.parse_text.ensures ∙ ap as_reading c.in-Ok.is)).bounds
 
-pub returns-in-Refused : goal.returns-in-Refused
-returns-in-Refused c =
-    let f = c.in-Refused in
-    ap Err c.refusal_of.ensures ∙ text-refused _ _ f.f (accepted (goal.at.returns-in-Refused c).In-Some) (sym c.parse_text.ensures ∙ ap as_reading f.is)
+pub returns-in-Err : goal.returns-in-Err
+returns-in-Err c =
+    let f = c.in-Err in
+    ap Err c.refusal_of.ensures ∙ text-refused _ _ f.f (accepted (goal.at.returns-in-Err c).In-Some) (sym c.parse_text.ensures ∙ ap as_reading f.is)
 
-pub returns-in-Read : goal.returns-in-Read
-returns-in-Read c =
-    let f = c.in-Read in
-    c.answer_at.ensures ∙ ap answer_at (kept {w = w64} (record { sfits = c.instant_of.type_inv }) ∙ c.instant_of.ensures ∙ ap (λ (bytes : List ℕ). instant_of (records bytes) (as_form f.form)) (same (goal.at.returns-in-Read c).In-Some))
-    ∙ text-read _ _ (as_form f.form) (accepted (goal.at.returns-in-Read c).In-Some) (sym c.parse_text.ensures ∙ ap as_reading f.is)
+pub returns-in-Ok : goal.returns-in-Ok
+returns-in-Ok c =
+    let f = c.in-Ok in
+    c.answer_at.ensures ∙ ap answer_at (kept {w = w64} (record { sfits = c.instant_of.type_inv }) ∙ c.instant_of.ensures ∙ ap (λ (bytes : List ℕ). instant_of (records bytes) (as_form f.form)) (same (goal.at.returns-in-Ok c).In-Some))
+    ∙ text-read _ _ (as_form f.form) (accepted (goal.at.returns-in-Ok c).In-Some) (sym c.parse_text.ensures ∙ ap as_reading f.is)
