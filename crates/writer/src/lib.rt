@@ -14,7 +14,7 @@ ghost use Rattle.zone.specs.Zone.{records, Accepted};
 ghost use Rattle.writer.specs.Writer.{iso_outcome, utc_outcome, to_date_string, local_outcome};
 
 use answer::{Refusal, Reply};
-use text::{DateFields, Printed};
+use text::DateFields;
 use timevalue::TimeValue;
 
 // The fields of a whole time, by the calendar's functions, for the printing functions.
@@ -37,15 +37,15 @@ fn date_fields(t: f64) -> DateFields
 }
 
 // What a printing function answered, as the reply for a time value.
-fn reply(value: u64, printed: Printed) -> Reply
+fn reply(value: u64, printed: Option<usize>) -> Reply
     ensures { result ≡ replied value printed }
 {
     match printed {
-        Printed::Length(length) => Reply::Text {
+        Some(length) => Reply::Text {
             value: value,
             length: length,
         },
-        Printed::NoRoom => Reply::Refused(Refusal::Output),
+        None => Reply::Refused(Refusal::Output),
     }
 }
 
