@@ -18,7 +18,7 @@ use Rattle.zone.specs.Zone.{records, Accepted}
 use Rattle.local.specs.Local.{offset_of_instant, offset_of_suffix, local_time, offset_seconds_f, local_time_f}
 use Rattle.local.proofs.Whole.{offset-whole, offset-small, local-time-shown, local-time-whole}
 use Rattle.text.specs.Inner.{whole_of}
-use Rattle.text.specs.declared.DateFields.{DateFields}
+use Rattle.text.specs.declared.fields.DateFields.{DateFields}
 use Rattle.writer.specs.Inner.{IsShown, FieldsAt}
 use Rattle.writer.specs.Writer.{to_date_string}
 use Rattle.writer.proofs.Written.{local-of-time}

@@ -8,43 +8,37 @@ use lib.ListN.{length}
 use Rattle.std.specs.Prelude.{Result}
 use borrow.Author.Tests.{le-leb, lt-leb, lt-ltb, le-ltb}
 use Rattle.ecma262.specs.Texts.{iso_of, utc_of, local_of, iso_text, utc_text, local_text}
-use Rattle.ecma262.specs.Domain.{Shown}
 use Rattle.integers.proofs.Int.{by-test}
-use Rattle.text.specs.Inner.{Prints, whole_of, Printable}
-use Rattle.text.specs.declared.DateFields.{DateFields}
-use Rattle.text.specs.declared.Printed.{Printed}
-use Rattle.text.specs.declared.Printed.TheVariants.{Length, NoRoom}
-use Rattle.text.proofs.Times.{time-printable}
+use Rattle.std.proofs.Common.{Option, Some, None}
+use Rattle.text.specs.Inner.{Prints, whole_of}
+use Rattle.text.specs.declared.fields.DateFields.{DateFields}
 use Rattle.answer.specs.declared.Refusal.{Refusal}
 use Rattle.answer.specs.declared.Text.{Text}
 use Rattle.writer.specs.Inner.{FieldsAt, replied}
 use Rattle.writer.specs.Outcome.{written, Leaves}
 
-module _ {w out last : List ℕ} {p : Printed} {r : Result Text Refusal} (value : ℕ) (h : Prints w out last p) (e : r ≡ replied value p) where
+module _ {w out last : List ℕ} {p : Option ℕ} {r : Result Text Refusal} (value : ℕ) (h : Prints w out last p) (e : r ≡ replied value p) where
   with-room : length w ≤ length out → Leaves (written value w out) r last
   unfolding written
   with-room g =
-      let l : p ≡ Length (length w) = simp (le-leb _ _ g) at h.answer in
+      let l : p ≡ Some (length w) = simp (le-leb _ _ g) at h.answer in
       record { reply-is = simp (le-ltb _ _ g) (e ∙ ap (replied value) l); output-is = simp (le-ltb _ _ g) (simp (le-leb _ _ g) at h.output) }
 
   without-room : length out < length w → Leaves (written value w out) r last
   unfolding written
   without-room g =
-      let n : p ≡ NoRoom = simp (lt-leb _ _ g) at h.answer in
+      let n : p ≡ None = simp (lt-leb _ _ g) at h.answer in
       record { reply-is = simp (lt-ltb _ _ g) (e ∙ ap (replied value) n); output-is = simp (lt-ltb _ _ g) (simp (lt-leb _ _ g) at h.output) }
 
   pub prints-leaves : Leaves (written value w out) r last
   prints-leaves = by-test (leb (length w) (length out)) (λ y. with-room (leb→le _ _ y)) (λ n. without-room (nleb→lt _ _ n))
 
 -- the text by another name
-pub prints-as : {u w out last : List ℕ} {p : Printed} → u ≡ w → Prints u out last p → Prints w out last p
+pub prints-as : {u w out last : List ℕ} {p : Option ℕ} → u ≡ w → Prints u out last p → Prints w out last p
 prints-as {out = out} {last} {p} e h = subst (λ (w : List ℕ). Prints w out last p) e h
 
--- fields of a time are printable, and their texts are the time's
+-- the texts of a time's fields are the time's
 module _ {f : DateFields} {t : ℤ} (h : FieldsAt t f) where
-  pub fields-printable : Shown t → Printable f
-  fields-printable s = time-printable f t s h.fields h.weekday
-
   pub iso-of-time : iso_of (whole_of f) ≡ iso_text t
   iso-of-time = ap iso_of h.fields
 

@@ -1,13 +1,11 @@
 -- What the writers' inner functions take and answer: a whole time, its fields for the printing functions, and a printing function's answer
 -- as a reply. Definitions only. Assumes nothing.
-use Rattle.std.specs.Prelude.{◌≡◌, ℕ, ℤ, Float, Result, Err}
+use Rattle.std.specs.Prelude.{◌≡◌, ℕ, ℤ, Float, Option, Some, None, Result, Err}
 use Rattle.ecma262.specs.Date.{fields_of, week_day}
 use Rattle.ecma262.specs.Domain.{Shown}
 use Rattle.float.specs.Whole.{IsWhole, trunc_z}
 use Rattle.text.specs.Inner.{whole_of}
-use Rattle.text.specs.declared.DateFields.{DateFields}
-use Rattle.text.specs.declared.Printed.{Printed}
-use Rattle.text.specs.declared.Printed.TheVariants.{Length, NoRoom}
+use Rattle.text.specs.declared.fields.DateFields.{DateFields}
 use Rattle.answer.specs.Answer.{text_reply}
 use Rattle.answer.specs.declared.Refusal.{Refusal}
 use Rattle.answer.specs.declared.Refusal.TheVariants.{Output}
@@ -24,6 +22,6 @@ pub record FieldsAt (t : ℤ) (f : DateFields) : Type 0 where
   pub weekday : f.weekday ≡ week_day t
 
 -- the reply of a text printed for a time value, whose bits are given
-abbrev pub replied : ℕ → Printed → Result Text Refusal
-replied value (Length n) = text_reply value n
-replied value NoRoom = Err Output
+abbrev pub replied : ℕ → Option ℕ → Result Text Refusal
+replied value (Some n) = text_reply value n
+replied value None = Err Output

@@ -14,7 +14,7 @@ ghost use Rattle.zone.specs.Zone.{records};
 ghost use Rattle.writer.specs.Writer.{iso_outcome, utc_outcome, to_date_string, local_outcome};
 
 use answer::{Refusal, Text};
-use text::{DateFields, Printed};
+use text::DateFields;
 use timevalue::TimeValue;
 use zone::ZoneList;
 
@@ -38,16 +38,11 @@ fn date_fields(t: f64) -> DateFields
 }
 
 // What a printing function answered, as the reply for a time value.
-fn reply(value: u64, printed: Printed) -> Result<Text, Refusal>
+fn reply(value: u64, printed: Option<usize>) -> Result<Text, Refusal>
     ensures { result ≡ replied value printed }
 {
-    match printed {
-        Printed::Length(length) => Ok(Text {
-            value: value,
-            length: length,
-        }),
-        Printed::NoRoom => Err(Refusal::Output),
-    }
+    let length = printed.ok_or(Refusal::Output)?;
+    Ok(Text { value, length })
 }
 
 // The ISO text, and below it the UTC text, of a whole time.

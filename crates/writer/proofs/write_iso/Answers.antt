@@ -2,11 +2,8 @@
 use mathlib.Core.Path.{◌∙◌, ap}
 use Prim.Native.Nat.{ℕ}
 use Rattle.writer.specs.Inner.{replied}
-use Rattle.writer.proofs.Written.{prints-leaves, prints-as, fields-printable, iso-of-time}
+use Rattle.writer.proofs.Written.{prints-leaves, prints-as, iso-of-time}
 use Rattle.writer.proofs.write_iso.Goals as goal
-
-pub iso_string-printed-requires : goal.iso_string-printed-requires
-iso_string-printed-requires c = fields-printable c.date_fields.ensures c.requires.shown
 
 pub returns : goal.returns
 returns c =

@@ -2,11 +2,8 @@
 use mathlib.Core.Path.{◌∙◌, ap}
 use Prim.Native.Nat.{ℕ}
 use Rattle.writer.specs.Inner.{replied}
-use Rattle.writer.proofs.Written.{prints-leaves, prints-as, fields-printable, utc-of-time}
+use Rattle.writer.proofs.Written.{prints-leaves, prints-as, utc-of-time}
 use Rattle.writer.proofs.write_utc.Goals as goal
-
-pub utc_string-printed-requires : goal.utc_string-printed-requires
-utc_string-printed-requires c = fields-printable c.date_fields.ensures c.requires.shown
 
 pub returns : goal.returns
 returns c =
