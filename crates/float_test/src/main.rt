@@ -3,9 +3,8 @@
 #![tactic(auto)]
 
 use anyhow::{Context, Result};
-use std::fmt;
-use std::io;
 use std::io::{BufRead, BufReader, BufWriter, Write};
+use std::{fmt, io};
 
 /// What every function gives for x, or for x and y, as 64 bits each.
 #[derive(Drop)]

@@ -1,6 +1,6 @@
-//! The calls, by a case's tag: each group of functions that take the same fields is one `match`.
+//! The calls, by a case's tag: one `match` for each group of functions.
+use crate::answer_line::AnswerLine;
 use crate::case::Case;
-use crate::reply::Reply;
 use answer::Answer;
 
 /// What a function that is no C function answers.
@@ -189,22 +189,22 @@ impl Case {
             .or_else(|| self.local_setters())
     }
 
-    /// Calls what the tag names.
-    pub(crate) fn reply(&mut self) -> Option<Reply<'_>> {
+    /// Calls what the tag names; `None` where that is not known.
+    pub(crate) fn answer_line(&mut self) -> Option<AnswerLine<'_>> {
         if let Some(answer) = self.answer() {
-            return Some(Reply {
+            return Some(AnswerLine {
                 answer,
                 output: &[],
             });
         }
         if let Some(answer) = self.utc_writers() {
-            return Some(Reply {
+            return Some(AnswerLine {
                 answer,
                 output: &self.second.bytes,
             });
         }
         let answer = self.local_writers()?;
-        Some(Reply {
+        Some(AnswerLine {
             answer,
             output: &self.third.bytes,
         })

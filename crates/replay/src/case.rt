@@ -2,7 +2,7 @@
 use std::alloc::{AllocError, Global};
 use std::array;
 
-/// A field's bytes, and the number that its first sixteen digits write.
+/// A field's bytes, and the number that the first eight are, the highest first.
 #[derive(Drop)]
 pub(crate) struct Field {
     pub(crate) bytes: Vec<u8>,
@@ -18,27 +18,27 @@ pub(crate) struct Case {
     pub(crate) fourth: Field,
 }
 
+/// The first N bytes, with zero bytes for those that are missing.
+fn leading<const N: usize>(bytes: &[u8]) -> [u8; N] {
+    array::from_fn(|at| bytes.get(at).copied().unwrap_or(0))
+}
+
 fn digit(character: u8) -> Option<u8> {
     let value = char::from(character).to_digit(16)?;
     u8::try_from(value).ok()
 }
 
+fn byte_of_digits(digits: &[u8]) -> u8 {
+    digits.iter().fold(0, |byte, digit| (byte << 4) | digit)
+}
+
 impl Field {
-    /// What is no digit, as the `-` that stands for no byte and the line's newline, is passed over, and so is a last digit with none beside it.
-    /// In the number digits that are missing count as 0.
+    /// What is no digit is passed over, as the `-` that stands for no byte and the newline. An odd last digit is a byte for the number alone.
     fn parse(alloc: Global, text: &[u8]) -> Result<Field, AllocError> {
         let digits: Vec<u8> = text.iter().filter_map(|c| digit(*c)).collect(alloc)?;
-        let bytes = digits
-            .as_chunks::<2>()
-            .0
-            .iter()
-            .map(|[high, low]| (high << 4) | low)
-            .collect(alloc)?;
-        let word = digits
-            .iter()
-            .chain(&[0; 16])
-            .take(16)
-            .fold(0, |word, digit| (word << 4) | u64::from(*digit));
+        let mut bytes: Vec<u8> = digits.chunks(2).map(byte_of_digits).collect(alloc)?;
+        let word = u64::from_be_bytes(leading(&bytes));
+        bytes.truncate(digits.len() / 2);
         Ok(Field { bytes, word })
     }
 }
@@ -47,12 +47,13 @@ impl Case {
     /// A tag that is too short ends in zero bytes; a field that is missing is empty.
     pub(crate) fn parse(alloc: Global, line: &[u8]) -> Result<Case, AllocError> {
         let mut fields = line.split(|byte| *byte == b' ').skip(1);
+        let mut field = || Field::parse(alloc, fields.next().unwrap_or(&[]));
         Ok(Case {
-            tag: array::from_fn(|at| line.get(at).copied().unwrap_or(0)),
-            first: Field::parse(alloc, fields.next().unwrap_or(&[]))?,
-            second: Field::parse(alloc, fields.next().unwrap_or(&[]))?,
-            third: Field::parse(alloc, fields.next().unwrap_or(&[]))?,
-            fourth: Field::parse(alloc, fields.next().unwrap_or(&[]))?,
+            tag: leading(line),
+            first: field()?,
+            second: field()?,
+            third: field()?,
+            fourth: field()?,
         })
     }
 }

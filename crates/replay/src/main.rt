@@ -7,9 +7,9 @@ use std::alloc::Global;
 use std::io;
 use std::io::{BufRead, BufReader, BufWriter, Read, Write};
 
+mod answer_line;
 mod calls;
 mod case;
-mod reply;
 
 /// A line longer than this many bytes counts as several.
 const LONGEST_LINE: u64 = 1024;
@@ -25,8 +25,8 @@ fn next_line(alloc: Global, reader: &mut (impl BufRead + Drop)) -> io::Result<Op
 fn respond(alloc: Global, line: &[u8], writer: &mut impl Write) -> io::Result<()> {
     let mut case = Case::parse(alloc, line)?;
     let tag = case.tag;
-    if let Some(reply) = case.reply() {
-        return writeln!(writer, "{reply}");
+    if let Some(answer) = case.answer_line() {
+        return writeln!(writer, "{answer}");
     }
     writer.write_all(b"unknown ")?;
     writer.write_all(&tag)?;

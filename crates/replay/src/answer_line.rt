@@ -4,12 +4,12 @@ use std::fmt;
 
 /// What a call answers, and the bytes of the output at exit.
 #[derive(Drop)]
-pub(crate) struct Reply<'a> {
+pub(crate) struct AnswerLine<'a> {
     pub(crate) answer: Answer,
     pub(crate) output: &'a [u8],
 }
 
-impl fmt::Display for Reply<'_> {
+impl fmt::Display for AnswerLine<'_> {
     fn fmt<W: fmt::Write>(&self, f: &mut fmt::Formatter<W>) -> fmt::Result {
         let Answer {
             number,
