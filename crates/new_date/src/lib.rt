@@ -86,12 +86,7 @@ fn seconds(t: f64, fields: FieldRecord) -> f64
     let s = first_of(&mut arguments);
     let milli = next_of(&mut arguments, Part::Milliseconds, t);
     // Let date be MakeDate(Day(t), MakeTime(HourFromTime(t), MinFromTime(t), s, milli)).
-    let time = make::make_time(
-        present(Part::Hours, t),
-        present(Part::Minutes, t),
-        s,
-        milli,
-    );
+    let time = make::make_time(present(Part::Hours, t), present(Part::Minutes, t), s, milli);
     make::make_date(calendar::day(t), time)
 }
 
@@ -141,10 +136,9 @@ fn month(t: f64, fields: FieldRecord) -> f64
 {
     let mut arguments = fields.arguments();
     let m = first_of(&mut arguments);
-    let y = present(Part::FullYear, t);
     let dt = next_of(&mut arguments, Part::Date, t);
     // Let newDate be MakeDate(MakeDay(YearFromTime(t), m, dt), TimeWithinDay(t)).
-    let day = make::make_day(y, m, dt);
+    let day = make::make_day(present(Part::FullYear, t), m, dt);
     make::make_date(day, calendar::time_within_day(t))
 }
 
@@ -204,10 +198,7 @@ pub fn built(fields: FieldRecord) -> f64
     // Let yr be MakeFullYear(y).
     let yr = make::make_full_year(y);
     // Let finalDate be MakeDate(MakeDay(yr, m, dt), MakeTime(h, min, s, milli)).
-    make::make_date(
-        make::make_day(yr, m, dt),
-        make::make_time(h, min, s, milli),
-    )
+    make::make_date(make::make_day(yr, m, dt), make::make_time(h, min, s, milli))
 }
 
 // ---- the way out. A local call has a zone list, and a UTC call none.

@@ -49,100 +49,100 @@ pub fn zovattha_to_string(zone: &[u8], time: u64, out: &mut [u8]) -> Answer
     writer::to_string(zone, time, out).into()
 }
 
-// ---- the field builder and the setters. A UTC call takes no zone list: it hands on an empty one, which nothing reads.
+// ---- the field builder and the setters. A UTC call takes no zone list.
 
 pub fn zovattha_build_utc(fields: &[u8]) -> Answer
     ensures { result ≡ answer_of_time (build_outcome false [] fields.now) }
 {
-    fields::build(false, b"", fields).into()
+    fields::build(None, fields).into()
 }
 
 pub fn zovattha_build_local(zone: &[u8], fields: &[u8]) -> Answer
     ensures { result ≡ answer_of_time (build_outcome true zone.now fields.now) }
 {
-    fields::build(true, zone, fields).into()
+    fields::build(Some(zone), fields).into()
 }
 
 pub fn zovattha_set_utc_milliseconds(time: u64, fields: &[u8]) -> Answer
     ensures { result ≡ answer_of_time (set_outcome Milliseconds false [] time fields.now) }
 {
-    fields::set(Part::Milliseconds, false, b"", time, fields).into()
+    fields::set(Part::Milliseconds, None, time, fields).into()
 }
 
 pub fn zovattha_set_milliseconds(zone: &[u8], time: u64, fields: &[u8]) -> Answer
     ensures { result ≡ answer_of_time (set_outcome Milliseconds true zone.now time fields.now) }
 {
-    fields::set(Part::Milliseconds, true, zone, time, fields).into()
+    fields::set(Part::Milliseconds, Some(zone), time, fields).into()
 }
 
 pub fn zovattha_set_utc_seconds(time: u64, fields: &[u8]) -> Answer
     ensures { result ≡ answer_of_time (set_outcome Seconds false [] time fields.now) }
 {
-    fields::set(Part::Seconds, false, b"", time, fields).into()
+    fields::set(Part::Seconds, None, time, fields).into()
 }
 
 pub fn zovattha_set_seconds(zone: &[u8], time: u64, fields: &[u8]) -> Answer
     ensures { result ≡ answer_of_time (set_outcome Seconds true zone.now time fields.now) }
 {
-    fields::set(Part::Seconds, true, zone, time, fields).into()
+    fields::set(Part::Seconds, Some(zone), time, fields).into()
 }
 
 pub fn zovattha_set_utc_minutes(time: u64, fields: &[u8]) -> Answer
     ensures { result ≡ answer_of_time (set_outcome Minutes false [] time fields.now) }
 {
-    fields::set(Part::Minutes, false, b"", time, fields).into()
+    fields::set(Part::Minutes, None, time, fields).into()
 }
 
 pub fn zovattha_set_minutes(zone: &[u8], time: u64, fields: &[u8]) -> Answer
     ensures { result ≡ answer_of_time (set_outcome Minutes true zone.now time fields.now) }
 {
-    fields::set(Part::Minutes, true, zone, time, fields).into()
+    fields::set(Part::Minutes, Some(zone), time, fields).into()
 }
 
 pub fn zovattha_set_utc_hours(time: u64, fields: &[u8]) -> Answer
     ensures { result ≡ answer_of_time (set_outcome Hours false [] time fields.now) }
 {
-    fields::set(Part::Hours, false, b"", time, fields).into()
+    fields::set(Part::Hours, None, time, fields).into()
 }
 
 pub fn zovattha_set_hours(zone: &[u8], time: u64, fields: &[u8]) -> Answer
     ensures { result ≡ answer_of_time (set_outcome Hours true zone.now time fields.now) }
 {
-    fields::set(Part::Hours, true, zone, time, fields).into()
+    fields::set(Part::Hours, Some(zone), time, fields).into()
 }
 
 pub fn zovattha_set_utc_date(time: u64, fields: &[u8]) -> Answer
     ensures { result ≡ answer_of_time (set_outcome Date false [] time fields.now) }
 {
-    fields::set(Part::Date, false, b"", time, fields).into()
+    fields::set(Part::Date, None, time, fields).into()
 }
 
 pub fn zovattha_set_date(zone: &[u8], time: u64, fields: &[u8]) -> Answer
     ensures { result ≡ answer_of_time (set_outcome Date true zone.now time fields.now) }
 {
-    fields::set(Part::Date, true, zone, time, fields).into()
+    fields::set(Part::Date, Some(zone), time, fields).into()
 }
 
 pub fn zovattha_set_utc_month(time: u64, fields: &[u8]) -> Answer
     ensures { result ≡ answer_of_time (set_outcome Month false [] time fields.now) }
 {
-    fields::set(Part::Month, false, b"", time, fields).into()
+    fields::set(Part::Month, None, time, fields).into()
 }
 
 pub fn zovattha_set_month(zone: &[u8], time: u64, fields: &[u8]) -> Answer
     ensures { result ≡ answer_of_time (set_outcome Month true zone.now time fields.now) }
 {
-    fields::set(Part::Month, true, zone, time, fields).into()
+    fields::set(Part::Month, Some(zone), time, fields).into()
 }
 
 pub fn zovattha_set_utc_full_year(time: u64, fields: &[u8]) -> Answer
     ensures { result ≡ answer_of_time (set_outcome FullYear false [] time fields.now) }
 {
-    fields::set(Part::FullYear, false, b"", time, fields).into()
+    fields::set(Part::FullYear, None, time, fields).into()
 }
 
 pub fn zovattha_set_full_year(zone: &[u8], time: u64, fields: &[u8]) -> Answer
     ensures { result ≡ answer_of_time (set_outcome FullYear true zone.now time fields.now) }
 {
-    fields::set(Part::FullYear, true, zone, time, fields).into()
+    fields::set(Part::FullYear, Some(zone), time, fields).into()
 }
