@@ -4,7 +4,8 @@ use mathlib.Core.Bool.{true}
 use Rattle.std.specs.Prelude.{Some}
 use Rattle.zone.specs.Zone.{accepts}
 use Rattle.zone.proofs.Rule.{accepts-sound}
-use Rattle.writer.proofs.Given.{list-refused, turned-back, local-given, time-is}
+use Rattle.writer.proofs.Given.{refused-leaves, list-refused, local-given, time-is}
+use Rattle.answer.proofs.Turned.{turned-back}
 use Rattle.writer.proofs.to_string.Goals as goal
 use Rattle.writer.proofs.to_string.Goals.{Else-not-accept}
 
@@ -21,8 +22,9 @@ to_date_string_t-requires c =
 
 pub returns-in_err-ok_or : goal.returns-in_err-ok_or
 returns-in_err-ok_or c =
-    let back = turned-back _ _ _ c.in_err-ok_or.ensures.value c.from_residual.ensures.1 in
-    local-given _ (accepted (goal.at.returns-in_err-ok_or c).Else-not-accept) _ _ c.time_value.ensures back.0 back.1
+    let none = c.in_err-ok_or.ensures.ok_part in
+    local-given _ (accepted (goal.at.returns-in_err-ok_or c).Else-not-accept) _ _ c.time_value.ensures none
+    (refused-leaves (turned-back _ _ _ _ none c.in_err-ok_or.ensures.value c.from_residual.ensures.1))
 
 pub returns-in-Nan : goal.returns-in-Nan
 returns-in-Nan c =
