@@ -46,10 +46,9 @@ fn put_iso(bits: u64, output: &mut [u8], at: usize) -> usize
     requires { IsTimeBits bits × (at + 27 ≤ length output.old) }
     ensures { Appends output.old at (iso_of_bits bits) result output.new }
 {
-    match writer::to_iso_string(bits, &mut output[at..]) {
-        Ok(iso) => at + iso.length,
-        Err(_) => at,
-    }
+    at + writer::to_iso_string(bits, &mut output[at..])
+        .unwrap()
+        .length
 }
 
 fn put_accepted(bits: u64, output: &mut [u8], at: usize) -> usize

@@ -13,9 +13,9 @@ use Rattle.timevalue.specs.TimeValue.{IsTime, time_value_of}
 use Rattle.timevalue.proofs.Laws.{time-taken}
 use Rattle.zone.specs.Zone.{records, accepts}
 use Rattle.answer.specs.declared.Refusal.{Refusal}
-use Rattle.answer.specs.declared.Refusal.TheVariants.{ZoneList, TimeValue}
+use Rattle.answer.specs.declared.Refusal.TheVariants.{ZoneList}
 use Rattle.answer.specs.declared.Text.{Text}
-use Rattle.std.specs.Prelude.{Option, Some, None, Result, Ok, Err, IsErrAnd, ok_or}
+use Rattle.std.specs.Prelude.{Option, Some, Result, Err}
 use Rattle.writer.specs.Inner.{IsShown}
 use Rattle.writer.specs.Outcome.{Outcome, refused, Leaves}
 use Rattle.writer.specs.Writer.{iso_case, iso_outcome, utc_case, utc_outcome, local_case, local_outcome}
@@ -27,15 +27,8 @@ is-time-shown {t} h = record { whole = h.whole; shown = wider (nat_abs (trunc_z 
     wider : (n : ℕ) → n ≤ 8_640_000_000_000_000 → n ≤ 8_640_000_086_399_000
     wider n h = omega arith
 
-pub refused-leaves : {f : Refusal} {out : List ℕ} → Leaves (refused f out) (Err f) out
-refused-leaves = record { reply-is = refl; output-is = refl }
-
--- a time value v that the code turns back by `?` with the error f: it is none, and the call answers refusal 2
-pub turned-back : (v : Option Given) {f : Refusal} (r : Result Text Refusal) (out : List ℕ) → Err f ≡ ok_or v TimeValue → IsErrAnd r (λ g. g ≡ f)
-    → (v ≡ None) × Leaves (refused TimeValue out) r out
-turned-back (Some g) r out e h = cc
-turned-back None (Ok t) out e h = absurd h
-turned-back None (Err g) out e h = (refl, record { reply-is = cc; output-is = refl })
+pub refused-leaves : {f : Refusal} {out : List ℕ} {r : Result Text Refusal} → r ≡ Err f → Leaves (refused f out) r out
+refused-leaves e = record { reply-is = e; output-is = refl }
 
 -- the time value v that the bits were judged to be, and the case g that it is
 module _ (time : ℕ) (out : List ℕ) {v g : Option Given} (judged : v ≡ time_value_of time) (is : v ≡ g) where
@@ -59,7 +52,7 @@ time-shown time judged is = is-time-shown (time-is time judged is)
 -- ---- the local writer: the list first
 pub list-refused : (zone : List ℕ) (time : ℕ) (out : List ℕ) → accepts zone ≡ false → Leaves (local_outcome zone time out) (Err ZoneList) out
 unfolding local_outcome
-list-refused zone time out e = rw e refused-leaves
+list-refused zone time out e = rw e (refused-leaves refl)
 
 module _ (zone : List ℕ) (yes : accepts zone ≡ true) (time : ℕ) (out : List ℕ) {v g : Option Given} (judged : v ≡ time_value_of time) (is : v ≡ g) where
   pub local-given : {r : Result Text Refusal} {last : List ℕ} → Leaves (local_case (records zone) g out) r last → Leaves (local_outcome zone time out) r last

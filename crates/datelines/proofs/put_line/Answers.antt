@@ -2,19 +2,16 @@
 use mathlib.Core.Path.{sym, ap, ◌∙◌}
 use native.Mathlib.Omega.{arith}
 use Rattle.datelines.specs.Lines.{refused_line}
-use Rattle.datelines.proofs.Runs.{none, puts-as}
+use Rattle.datelines.proofs.Runs.{puts-as}
 use Rattle.datelines.proofs.Times.{read-bits}
 use Rattle.datelines.proofs.Streams.{line-of}
 use Rattle.datelines.proofs.put_line.Goals as goal
 
 pub put_accepted-requires : goal.put_accepted-requires
-put_accepted-requires c = (read-bits _ _ _ (sym c.read.ensures ∙ c.in-Time.is), omega (arith, c.requires))
+put_accepted-requires c = (read-bits _ _ _ (sym c.read.ensures ∙ c.in-Ok.is), omega (arith, c.requires))
 
-pub returns-in-Time : goal.returns-in-Time
-returns-in-Time c = puts-as c.put_accepted.ensures (line-of _ _ (sym c.read.ensures ∙ c.in-Time.is))
+pub returns-in-Ok : goal.returns-in-Ok
+returns-in-Ok c = puts-as c.put_accepted.ensures (line-of _ _ (sym c.read.ensures ∙ c.in-Ok.is))
 
-pub returns-in-Text : goal.returns-in-Text
-returns-in-Text c = puts-as none (line-of _ _ (sym c.read.ensures ∙ c.in-Text.is))
-
-pub returns-in-Refused : goal.returns-in-Refused
-returns-in-Refused c = puts-as c.put_refused.ensures (ap refused_line c.refusal_number.ensures ∙ line-of _ _ (sym c.read.ensures ∙ c.in-Refused.is))
+pub returns-in-Err : goal.returns-in-Err
+returns-in-Err c = puts-as c.put_refused.ensures (ap refused_line c.into.ensures ∙ line-of _ _ (sym c.read.ensures ∙ c.in-Err.is))

@@ -3,7 +3,8 @@ use mathlib.Core.Path.{◌≡◌, sym, ap, ◌∙◌}
 use Rattle.std.specs.Prelude.{is_some, Some}
 use mathlib.Core.Bool.{true}
 use Rattle.zone.specs.Zone.{accepts}
-use Rattle.writer.proofs.Given.{list-refused, turned-back, local-given, time-is}
+use Rattle.writer.proofs.Given.{refused-leaves, list-refused, local-given, time-is}
+use Rattle.answer.proofs.Turned.{turned-back}
 use Rattle.writer.proofs.to_string.Goals as goal
 use Rattle.writer.proofs.to_string.Goals.{In-Some}
 
@@ -22,8 +23,9 @@ to_date_string_t-requires c = time-is _ c.time_value.ensures (c.in_ok-ok_or.ensu
 
 pub returns-in_err-ok_or : goal.returns-in_err-ok_or
 returns-in_err-ok_or c =
-    let back = turned-back _ _ _ c.in_err-ok_or.ensures.value c.from_residual.ensures.1 in
-    local-given _ (accepted (goal.at.returns-in_err-ok_or c).In-Some) _ _ c.time_value.ensures back.0 back.1
+    let none = c.in_err-ok_or.ensures.ok_part in
+    local-given _ (accepted (goal.at.returns-in_err-ok_or c).In-Some) _ _ c.time_value.ensures none
+    (refused-leaves (turned-back _ _ _ _ none c.in_err-ok_or.ensures.value c.from_residual.ensures.1))
 
 pub returns-in-Nan : goal.returns-in-Nan
 returns-in-Nan c =
