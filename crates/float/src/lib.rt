@@ -284,6 +284,9 @@ pub fn rem_euclid(x: f64, y: f64) -> f64
 pub fn is_whole_within(x: f64, most: f64) -> bool
     ensures { result ≡ is_whole_within most x }
 {
+    if x.is_nan() {
+        return false;
+    }
     if abs(x) <= most {
         let b = x.to_bits();
         return trunc_bits(b) == b;

@@ -1,21 +1,18 @@
 -- `float::as_i64` meets its contract: a whole number is itself, within the range the fraction is dropped, and beyond it the nearer end is returned.
 -- Assumes nothing.
-use Rattle.std.proofs.Common.{◌^◌, T, sym, ◌∙◌, subst, lit≤, w64}
-use lib.Ieee.{binary64, fits, of_bits, of_int}
-use Rattle.integers.proofs.Machine.{kept}
+use Rattle.std.proofs.Common.{◌^◌, sym, ◌∙◌, lit≤, w64}
+use lib.Ieee.{of_bits, of_int}
+use Rattle.integers.proofs.Machine.{kept, true-T}
 use Rattle.float.specs.Whole.{trunc_z, WholeWithin}
 use Rattle.float.proofs.Casts.{to_signed-whole, in-63}
 use Rattle.float.proofs.Within.{within-is}
 use Rattle.float.proofs.as_i64.Goals as goal
-use Rattle.float.proofs.as_i64.Goals.{Start, Then-is_whole_within}
-
-held : (c : Start) → T (fits binary64 c.args.x)
-held c = subst T (sym c.well_formed.0.1) tt
+use Rattle.float.proofs.as_i64.Goals.{Then-is_whole_within}
 
 whole : (c : Then-is_whole_within) → WholeWithin (2 ^ 53) c.args.x
 unfolding of_bits of_int
 whole c =
-    within-is 9007199254740992 (lit≤ tt) c.args.x (held c.before.before) (sym c.is_whole_within.ensures ∙ c.if-is_whole_within.true)
+    within-is 9007199254740992 (lit≤ tt) c.args.x (true-T _ c.well_formed.0.1) (sym c.is_whole_within.ensures ∙ c.if-is_whole_within.true)
 
 pub exact_i64-requires : goal.exact_i64-requires
 exact_i64-requires c = whole c
