@@ -43,7 +43,7 @@ module _ {bits : ℕ} (b : IsTimeBits bits) (old : Output) (room : HasRoom old 2
 
   stored : {v n : ℕ} → r ≡ Text v n → put_mid i (length out - i) out ys ≡ sets out i (iso_of_bits bits)
   stored e =
-      part-stored (iso_of_bits bits) out (omega (arith, iso-length bits))
+      part-stored (iso_of_bits bits) out i (omega (arith, iso-length bits))
       (ap (λ (z : List ℕ). take i out ++ z) (ap₂ (λ (x y : List ℕ). x ++ y) written rest ∙ append-nil _))
     where
       written : ys ≡ iso_of_bits bits ++ drop (length (iso_of_bits bits)) (drop i out)
