@@ -2,43 +2,78 @@
 // writes; what it writes is the work of `datelines`.
 #![tactic(auto)]
 
-ghost use Rattle.std.specs.Prelude.{◌≡◌, length};
+ghost use Rattle.std.specs.Prelude.{◌≤◌, length};
 
 use datelines::OpenLine;
-use std::io;
 use std::io::{Read, Write};
 use text::Output;
 
+// What stops the program before the input has ended.
+#[derive(Clone, Copy)]
+enum Failure {
+    Read,
+    Write,
+}
+
 // A line on standard error. Where that fails too, nothing is left to say it on.
-fn say(rt: &HostRuntime, message: &[u8]) {
-    match rt.stderr().write_all(message) {
+fn say(rt: &HostRuntime, failure: Failure) {
+    let message = match failure {
+        Failure::Read => "datecheck: cannot read standard input\n",
+        Failure::Write => "datecheck: cannot write to standard output\n",
+    };
+    match rt.stderr().write_all(message.as_bytes()) {
         Ok(()) => (),
         Err(_) => (),
     }
 }
 
-// Writes answers out. Where that fails, a line on standard error says so.
-fn write(rt: &HostRuntime, answers: &[u8]) -> io::Result<()> {
-    rt.stdout().write_all(answers).inspect_err(|_| say(rt, b"datecheck: cannot write to standard output\n"))
+// The answers to what was read go into the output, from its start: how many bytes they are. The input has ended where a read gives nothing: then
+// a last line without a newline is answered.
+fn answer(chunk: &[u8], line: &mut OpenLine, bytes: &mut [u8; 262144]) -> usize
+    requires { length chunk.now ≤ 4096 }
+    ensures { result ≤ 262144 }
+{
+    let mut output = Output { bytes, at: 0 };
+    if chunk.len() == 0 {
+        line.finish(&mut output);
+        return output.at;
+    }
+    line.feed(chunk, &mut output);
+    output.at
 }
 
-// Reads once, no more than `feed` can answer in the output, and writes the answers out. The input has ended where a read gives nothing: then
-// a last line without a newline is answered. A read that fails is not that end. Answers whether there may be more.
+// Reads once, no more than the output has room to answer, and writes the answers out. A read that fails is not the input's end. Answers whether
+// more may come.
 fn take_turn(
     rt: &HostRuntime,
-    input: &mut [u8],
+    input: &mut [u8; 4096],
     line: &mut OpenLine,
-    bytes: &mut [u8],
-) -> io::Result<bool>
-    requires { (length input.old ≡ 4096) × (length bytes.old ≡ 262144) }
-{
-    let n = rt.stdin().read(input).inspect_err(|_| say(rt, b"datecheck: cannot read standard input\n"))?;
-    let mut output = Output { bytes, at: 0 };
-    if n == 0 {
-        line.finish(&mut output);
-    } else {
-        line.feed(&input[..n], &mut output);
-    }
-    write(rt, &output.bytes[..output.at])?;
+    bytes: &mut [u8; 262144],
+) -> Result<bool, Failure> {
+    let n = rt.stdin().read(input).map_err(|_| Failure::Read)?;
+    let end = answer(&input[..n], line, bytes);
+    rt.stdout()
+        .write_all(&bytes[..end])
+        .map_err(|_| Failure::Write)?;
     Ok(n > 0)
+}
+
+// A proved loop has to end, and nothing says that an input does: the turns are counted to a number that no run uses up.
+fn main(rt: HostRuntime) {
+    let mut input = [0u8; 4096];
+    let mut line = OpenLine {
+        bytes: [0u8; 33],
+        kept: 0,
+    };
+    let mut bytes = [0u8; 262144];
+    for _ in 0..u64::MAX {
+        match take_turn(&rt, &mut input, &mut line, &mut bytes) {
+            Ok(true) => (),
+            Ok(false) => return,
+            Err(failure) => {
+                say(&rt, failure);
+                return;
+            }
+        }
+    }
 }
