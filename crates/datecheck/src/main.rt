@@ -2,88 +2,78 @@
 // writes; what it writes is the work of `datelines`.
 #![tactic(auto)]
 
-ghost use Rattle.std.specs.Prelude.{◌≡◌, ◌≤◌, length};
+ghost use Rattle.std.specs.Prelude.{◌≤◌, length};
 
+use datelines::OpenLine;
 use std::io::{Read, Write};
+use text::Output;
 
-// Whether to go on, and how many bytes of the open line are kept.
+// What stops the program before the input has ended.
 #[derive(Clone, Copy)]
-struct Turn {
-    more: bool,
-    kept: usize,
+enum Failure {
+    Read,
+    Write,
 }
 
 // A line on standard error. Where that fails too, nothing is left to say it on.
-fn say(rt: &HostRuntime, message: &[u8]) {
-    match rt.stderr().write_all(message) {
+fn say(rt: &HostRuntime, failure: Failure) {
+    let message = match failure {
+        Failure::Read => "datecheck: cannot read standard input\n",
+        Failure::Write => "datecheck: cannot write to standard output\n",
+    };
+    match rt.stderr().write_all(message.as_bytes()) {
         Ok(()) => (),
         Err(_) => (),
     }
 }
 
-// Writes answers out. Where that fails, a line on standard error says so.
-fn write(rt: &HostRuntime, answers: &[u8]) -> bool {
-    match rt.stdout().write_all(answers) {
-        Ok(()) => true,
-        Err(_) => {
-            say(rt, b"datecheck: cannot write to standard output\n");
-            false
-        }
+// The answers to what was read go into the output, from its start: how many bytes they are. The input has ended where a read gives nothing: then
+// a last line without a newline is answered.
+fn answer(chunk: &[u8], line: &mut OpenLine, bytes: &mut [u8; 262144]) -> usize
+    requires { length chunk.now ≤ 4096 }
+    ensures { result ≤ 262144 }
+{
+    let mut output = Output { bytes, at: 0 };
+    if chunk.len() == 0 {
+        line.finish(&mut output);
+        return output.at;
     }
+    line.feed(chunk, &mut output);
+    output.at
 }
 
-// Reads once, no more than `feed` can answer in the output, and writes the answers out. The input has ended where a read gives nothing: then
-// a last line without a newline is answered. A read that fails is not that end.
+// Reads once, no more than the output has room to answer, and writes the answers out. A read that fails is not the input's end. Answers whether
+// more may come.
 fn take_turn(
     rt: &HostRuntime,
-    input: &mut [u8],
-    line: &mut [u8],
-    kept: usize,
-    output: &mut [u8],
-) -> Turn
-    requires { (length input.old ≡ 4096) × (length line.old ≡ 33) × (kept ≤ 33) × (length output.old ≡ 262144) }
-    ensures { result.kept ≤ 33 }
-{
-    match rt.stdin().read(input) {
-        Err(_) => {
-            say(rt, b"datecheck: cannot read standard input\n");
-            Turn {
-                more: false,
-                kept: 0,
-            }
-        }
-        Ok(n) => {
-            if n == 0 {
-                let end = datelines::finish(&line[..kept], output, 0);
-                write(rt, &output[..end]);
-                return Turn {
-                    more: false,
-                    kept: 0,
-                };
-            }
-            let f = datelines::feed(&input[..n], line, kept, output, 0);
-            let next = f.next;
-            Turn {
-                more: write(rt, &output[..next]),
-                kept: f.kept,
-            }
-        }
-    }
+    input: &mut [u8; 4096],
+    line: &mut OpenLine,
+    bytes: &mut [u8; 262144],
+) -> Result<bool, Failure> {
+    let n = rt.stdin().read(input).map_err(|_| Failure::Read)?;
+    let end = answer(&input[..n], line, bytes);
+    rt.stdout()
+        .write_all(&bytes[..end])
+        .map_err(|_| Failure::Write)?;
+    Ok(n > 0)
 }
 
-// A proved loop has to end, and nothing says that an input does: it counts its turns down from a number that no run uses up.
+// A proved loop has to end, and nothing says that an input does: the turns are counted to a number that no run uses up.
 fn main(rt: HostRuntime) {
     let mut input = [0u8; 4096];
-    let mut line = [0u8; 33];
-    let mut output = [0u8; 262144];
-    let mut kept: usize = 0;
-    let mut turns = u64::MAX;
-    while turns > 0 {
-        let t = take_turn(&rt, &mut input, &mut line, kept, &mut output);
-        if !t.more {
-            return;
+    let mut line = OpenLine {
+        bytes: [0u8; 33],
+        kept: 0,
+    };
+    let mut bytes = [0u8; 262144];
+    for _ in 0..u64::MAX {
+        match take_turn(&rt, &mut input, &mut line, &mut bytes) {
+            Ok(true) => (),
+            Ok(false) => return,
+            Err(failure) => {
+                say(&rt, failure);
+                return;
+            }
         }
-        kept = t.kept;
-        turns -= 1;
     }
 }

@@ -1,5 +1,5 @@
 -- What one byte of the input prints and leaves open, and the lent bytes then, by cases; and the chunk so far, with a byte more. Assumes nothing.
-use mathlib.Core.Path.{◌≡◌, refl, sym, ap, ap₂, ◌∙◌, subst}
+use mathlib.Core.Path.{◌≡◌, refl, sym, ap, ap₂, ◌∙◌}
 use mathlib.Core.List.{List, [], ◌∷◌, ◌++◌}
 use Prim.Native.Nat.{ℕ, ◌+◌, ◌*◌, ◌≤◌, ◌<◌}
 use native.Mathlib.Omega.{arith}
@@ -8,10 +8,13 @@ use native.Mathlib.Numerals.{add-one}
 use borrow.Author.Tests.{eq-eqb, ne_eqb, lt-ltb, le-ltb}
 use lib.ListN.{length, take, set, get_or, take-append-drop}
 use lib.Seq.{length-take-le, take-suc-set, take-suc, take_all, sets, sets-eq}
-use Rattle.text.proofs.Runs.{sets-join}
+use Rattle.text.specs.Inner.{HasRoom}
+use Rattle.text.specs.declared.output.Output.{Output}
+use Rattle.text.proofs.Runs.{sets-join, appended_none, appended_own, appended_then}
+use Rattle.datelines.specs.declared.open_line.OpenLine.{OpenLine}
+use Rattle.datelines.specs.Fed.{begun, Feeds}
 use Rattle.datelines.specs.Lines.{line_of, last_of, behind, prints, emitted, left, lent, Appends}
-use Rattle.datelines.proofs.Runs.{none, puts-as, puts_then}
-use Rattle.datelines.proofs.Streams.{left-snoc, lent-snoc, emitted-snoc, emitted-length, prints-length, last-length}
+use Rattle.datelines.proofs.Streams.{left-snoc, lent-snoc, emitted-snoc, prints-length, last_some, last-length}
 
 -- ---- a newline ends the line
 pub ends : (line : List ℕ) (b : ℕ) → b ≡ 10 → line_of line ≡ prints line b
@@ -26,12 +29,20 @@ pub begins-bytes : (bytes line : List ℕ) (b : ℕ) → b ≡ 10 → bytes ≡ 
 begins-bytes bytes line b e = ap (sets bytes 0) (begins line b e)
 
 -- what a byte prints has room in 64 bytes
-pub byte-room : (line : List ℕ) (b : ℕ) {out : List ℕ} {at n : ℕ} {last : List ℕ} → Appends out at (prints line b) n last → n ≤ at + 64
-byte-room line b p = omega (arith, p.next-is, prints-length line b)
+pub byte-room : (line : List ℕ) (b : ℕ) {out last : Output} → Appends out (prints line b) last → last.at ≤ out.at + 64
+byte-room line b p = omega (arith, p.next, prints-length line b)
 
 -- and so has what the end of the input prints
-pub last-room : (line : List ℕ) {out : List ℕ} {at n : ℕ} {last : List ℕ} → Appends out at (last_of line) n last → n ≤ at + 64
-last-room line p = omega (arith, p.next-is, last-length line)
+pub last-room : (line : List ℕ) {out last : Output} → Appends out (last_of line) last → last.at ≤ out.at + 64
+last-room line p = omega (arith, p.next, last-length line)
+
+-- ---- the end of the input
+pub no-line : (line : OpenLine) → line.kept ≡ 0 → [] ≡ last_of (begun line)
+unfolding last_of
+no-line line e = sym (ap (λ (k : ℕ). last_of (take k line.bytes)) e)
+
+pub some-line : (line : OpenLine) → (line.kept ≡ 0 → ⊥) → line.kept ≤ length line.bytes → line_of (begun line) ≡ last_of (begun line)
+some-line line some h = last_some (begun line) (λ e. some (sym (length-take-le line.kept line.bytes h) ∙ e))
 
 -- ---- another byte is kept, or not
 module _ (line : List ℕ) (kept b : ℕ) (other : b ≡ 10 → ⊥) (long : length line ≡ 33) (few : kept ≤ 33) where
@@ -63,53 +74,45 @@ module _ (line : List ℕ) (kept b : ℕ) (other : b ≡ 10 → ⊥) (long : len
   pub drops-bytes : 33 ≤ kept → line ≡ sets line 0 (behind (take kept line) b)
   drops-bytes h = rw (← drops h) (sym in_place)
 
-  pub quiet : {out : List ℕ} {at : ℕ} → Appends out at (prints (take kept line) b) at out
-  quiet = puts-as none silent
+  pub quiet : {out : Output} → Appends out (prints (take kept line) b) out
+  quiet = appended_own appended_none silent
 
 -- ---- the chunk: from its first i bytes to the next
-module _ (chunk begun out : List ℕ) (at : ℕ) where
-  pub start : Appends out at (emitted begun (take 0 chunk)) at out
-  unfolding emitted
-  start = none
+abbrev pub FedTo : List ℕ → OpenLine → Output → ℕ → OpenLine → Output → Type 0
+FedTo chunk line out i l o = Feeds (emitted (begun line) (take i chunk)) (left (begun line) (take i chunk)) (lent line.bytes (begun line) (take i chunk)) (64 * i) out l o
 
-  pub start-open : begun ≡ left begun (take 0 chunk)
-  unfolding left
-  start-open = refl
+module _ (chunk : List ℕ) (line : OpenLine) (out : Output) where
+  pub none_fed : FedTo chunk line out 0 line out
+  unfolding emitted left lent
+  none_fed = record { puts = appended_none; opens = refl; leaves = refl; room = omega arith }
 
-  pub start-bytes : (bytes : List ℕ) → bytes ≡ lent bytes begun (take 0 chunk)
-  unfolding lent
-  start-bytes bytes = refl
+  module _ (i : ℕ) {l : OpenLine} {o : Output} (p : FedTo chunk line out i l o) where
+    pub one_more : {k : OpenLine} {last : Output} → i < length chunk
+        → Feeds (prints (begun l) (get_or chunk i 0)) (behind (begun l) (get_or chunk i 0)) (sets l.bytes 0 (behind (begun l) (get_or chunk i 0))) 64 o k last
+        → FedTo chunk line out (i + 1) k last
+    one_more more q =
+        let b : ℕ = get_or chunk i 0 in
+        let part : take (i + 1) chunk ≡ take i chunk ++ (b ∷ []) = rw add-one (take-suc chunk i 0 more) in
+        record {
+          puts = appended_own (appended_then p.puts q.puts)
+              (ap (λ (s : List ℕ). emitted (begun line) (take i chunk) ++ prints s b) p.opens
+              ∙ sym (ap (emitted (begun line)) part ∙ emitted-snoc (begun line) (take i chunk) b));
+          opens = q.opens ∙ ap (λ (s : List ℕ). behind s b) p.opens ∙ sym (ap (left (begun line)) part ∙ left-snoc (begun line) (take i chunk) b);
+          leaves = q.leaves ∙ ap₂ (λ (n s : List ℕ). sets n 0 (behind s b)) p.leaves p.opens
+              ∙ sym (ap (lent line.bytes (begun line)) part ∙ lent-snoc line.bytes (begun line) (take i chunk) b);
+          room = omega (arith, p.room, q.room);
+        }
 
-  pub all-puts : {i n : ℕ} {last : List ℕ} → length chunk ≤ i → Appends out at (emitted begun (take i chunk)) n last → Appends out at (emitted begun chunk) n last
-  all-puts {i} h p = puts-as p (ap (emitted begun) (take_all i chunk h))
+    pub room_left : HasRoom out (64 * length chunk) → i < length chunk → HasRoom o 64
+    room_left h more = omega (arith, p.room, p.puts.size)
 
-  pub all-open : {i : ℕ} {l : List ℕ} → length chunk ≤ i → l ≡ left begun (take i chunk) → l ≡ left begun chunk
-  all-open {i} h e = e ∙ ap (left begun) (take_all i chunk h)
-
-  pub all-bytes : (bytes : List ℕ) {i : ℕ} {l : List ℕ} → length chunk ≤ i → l ≡ lent bytes begun (take i chunk) → l ≡ lent bytes begun chunk
-  all-bytes bytes {i} h e = e ∙ ap (lent bytes begun) (take_all i chunk h)
-
-  module _ {i : ℕ} (more : i < length chunk) where
-    next-part : take (i + 1) chunk ≡ take i chunk ++ (get_or chunk i 0 ∷ [])
-    next-part = rw add-one (take-suc chunk i 0 more)
-
-    pub more-puts : {n m : ℕ} {line o last : List ℕ} → line ≡ left begun (take i chunk) → Appends out at (emitted begun (take i chunk)) n o → Appends o n (prints line (get_or chunk i 0)) m last
-        → Appends out at (emitted begun (take (i + 1) chunk)) m last
-    more-puts {n} {m} {line} {o} {last} e p q =
-        puts-as (puts_then p (subst (λ (l : List ℕ). Appends o n (prints l (get_or chunk i 0)) m last) e q) refl)
-        (sym (ap (emitted begun) next-part ∙ emitted-snoc begun (take i chunk) (get_or chunk i 0)))
-
-    pub more-open : {line l : List ℕ} → line ≡ left begun (take i chunk) → l ≡ behind line (get_or chunk i 0) → l ≡ left begun (take (i + 1) chunk)
-    more-open e f = f ∙ ap (λ (l : List ℕ). behind l (get_or chunk i 0)) e ∙ sym (ap (left begun) next-part ∙ left-snoc begun (take i chunk) (get_or chunk i 0))
-
-    pub more_bytes : (bytes : List ℕ) {line now l : List ℕ} → line ≡ left begun (take i chunk) → now ≡ lent bytes begun (take i chunk)
-        → l ≡ sets now 0 (behind line (get_or chunk i 0)) → l ≡ lent bytes begun (take (i + 1) chunk)
-    more_bytes bytes e f g =
-        g ∙ ap₂ (λ (n l : List ℕ). sets n 0 (behind l (get_or chunk i 0))) f e
-        ∙ sym (ap (lent bytes begun) next-part ∙ lent-snoc bytes begun (take i chunk) (get_or chunk i 0))
-
-  pub puts-room : {i n : ℕ} {last : List ℕ} → i ≤ length chunk → Appends out at (emitted begun (take i chunk)) n last → n ≤ at + 64 * i
-  puts-room {i} h p = omega (arith, p.next-is, emitted-length begun (take i chunk), length-take-le i chunk h)
-
-  pub chunk-room : {n : ℕ} {last : List ℕ} → Appends out at (emitted begun chunk) n last → n ≤ at + 64 * length chunk
-  chunk-room p = omega (arith, p.next-is, emitted-length begun chunk)
+    pub all_fed : length chunk ≤ i → i ≤ length chunk
+        → Feeds (emitted (begun line) chunk) (left (begun line) chunk) (lent line.bytes (begun line) chunk) (64 * length chunk) out l o
+    all_fed h g =
+        let e : take i chunk ≡ chunk = take_all i chunk h in
+        record {
+          puts = appended_own p.puts (ap (emitted (begun line)) e);
+          opens = p.opens ∙ ap (left (begun line)) e;
+          leaves = p.leaves ∙ ap (lent line.bytes (begun line)) e;
+          room = omega (arith, p.room);
+        }

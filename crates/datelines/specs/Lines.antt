@@ -3,6 +3,8 @@
 -- nothing.
 use Rattle.std.specs.Prelude.{◌≡◌, cond, List, [], ◌∷◌, ◌++◌, ℕ, zero, suc, ◌+◌, ◌/◌, ◌%◌, ltb, eqb, ℤ, pos, negsuc, length, replicate, Result, Ok, Err}
 use Rattle.std.proofs.lemmas.List.Edits.{sets}
+use Rattle.text.specs.Inner.{Appended}
+use Rattle.text.specs.declared.output.Output.{Output}
 use Rattle.std.specs.Float.{binary64}
 use Rattle.std.specs.Float.Ieee.{of_bits}
 use Rattle.ecma262.specs.Date.{InRange}
@@ -108,7 +110,6 @@ pub record IsTimeBits (bits : ℕ) : Type 0 where
   pub inside : InRange time
   pub bits_are : bits ≡ time_bits time
 
--- w is stored in the output from the place i on, and `next` is the place behind it: `last` is the output then
-pub record Appends (out : List ℕ) (i : ℕ) (w : List ℕ) (next : ℕ) (last : List ℕ) : Type 0 where
-  pub stored : last ≡ sets out i w
-  pub next-is : next ≡ i + length w
+-- w is put behind what was put before
+abbrev pub Appends : Output → List ℕ → Output → Type 0
+Appends old w new = Appended old w (length w) new
