@@ -51,7 +51,7 @@ module _ {bits : ℕ} (b : IsTimeBits bits) (old : Output) (room : HasRoom old 2
       written : ys ≡ iso_of_bits bits ++ drop (length (iso_of_bits bits)) (drop i out)
       written = l.output-is ∙ ap (λ (o : Outcome). o.output) outcome ∙ ap (λ (z : List ℕ). iso_of_bits bits ++ drop (length (iso_of_bits bits)) z) part
 
-  pub iso-puts : {v n : ℕ} {new : Output} → r ≡ Text v n → new.bytes.now ≡ put_mid i (length out - i) out ys → new.at ≡ i + n → new.bytes.ghost_name ≡ old.bytes.ghost_name
+  pub iso-puts : {t : Text} {new : Output} → r ≡ Ok t → new.bytes.now ≡ put_mid i (length out - i) out ys → new.at ≡ i + t.length → new.bytes.ghost_name ≡ old.bytes.ghost_name
       → Appends old (iso_of_bits bits) new
   iso-puts e bytes place name =
       record {

@@ -1,8 +1,8 @@
--- `zone_records_main::judge` is safe: what `accept_first` has accepted may be asked. Assumes nothing.
+-- `zone_records_main::judge` is safe: what `accept` has accepted may be asked. Assumes nothing.
 use mathlib.Core.Path.{sym, ◌∙◌}
 use Rattle.integers.proofs.Machine.{true-T}
 use Rattle.zone.proofs.Rule.{is_zone_list-sound}
 use Rattle.zone_records_main.proofs.judge.Goals as goal
 
-pub answer-requires : goal.answer-requires
-answer-requires c = (c.requires, is_zone_list-sound _ (true-T _ (sym c.accept_first.ensures ∙ c.if-accept_first.true)))
+pub lookup-offset-requires : goal.lookup-offset-requires
+lookup-offset-requires c = is_zone_list-sound _ (true-T _ (sym c.accept.ensures ∙ c.if-not-accept.false))

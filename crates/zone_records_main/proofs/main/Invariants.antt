@@ -1,10 +1,6 @@
--- `zone_records_main::main` is safe and ends. Assumes nothing.
+-- `zone_records_main::main` ends: each list takes its bytes. Assumes nothing.
+use Rattle.std.proofs.Common.{length}
 use Rattle.zone_records_main.proofs.main.Given as goal
 
-abbrev pub invariant-loop-left : goal.invariant-loop-left
-invariant-loop-left l = Unit {0}
-
-abbrev pub decreases-loop-left : goal.decreases-loop-left
-decreases-loop-left l = l.left
-
--- LOOPS [[["loop", "loop-left"], ["left"]]]
+abbrev pub decreases-loop-size : goal.decreases-loop-size
+decreases-loop-size l = length l.rest
