@@ -16,6 +16,8 @@ ghost use Rattle.local.specs.Local.{offset_seconds_f, local_time_f, utc_f};
 ghost use Rattle.fast_atoi.specs.Inner.{moved, join4, join8};
 ghost use Rattle.exports.specs.Inner.{Given, Handed, Whole, Packed, word, under_list};
 
+use zone::ZoneList;
+
 // ---- words
 
 // A whole number as a word.
@@ -226,46 +228,47 @@ pub fn exports_time_clip(time: u64) -> u64
 
 // ---- the zone list and local time: 0 where the list is not accepted
 
+#[tactic(auto, unfolding(crate::specs::Inner::under_list))]
 pub fn exports_zone_accepted(zone: &[u8]) -> u64
     ensures { result ≡ under_list zone.now 1 }
 {
-    if zone::accept(zone) { 1 } else { 0 }
+    ZoneList::accept(zone).is_some() as u64
 }
 
+#[tactic(auto, unfolding(crate::specs::Inner::under_list))]
 pub fn exports_zone_offset(zone: &[u8], second: u64) -> u64
     ensures { result ≡ under_list zone.now (word (offset_at (records zone.now) (twos_complement 64 second))) }
 {
-    if !zone::accept(zone) {
-        return 0;
-    }
-    word32(zone::lookup(zone, little_endian::signed64(second)))
+    ZoneList::accept(zone).map_or(0, |list| {
+        word32(list.lookup(little_endian::signed64(second)))
+    })
 }
 
+#[tactic(auto, unfolding(crate::specs::Inner::under_list))]
 pub fn exports_local_timezone_offset_seconds(zone: &[u8], t: u64) -> u64
     ensures { result ≡ under_list zone.now (word (offset_seconds_f (records zone.now) (of_bits binary64 t))) }
 {
-    if !zone::accept(zone) {
-        return 0;
-    }
-    word32(local::local_timezone_offset_seconds(float::of_bits(t), zone))
+    ZoneList::accept(zone).map_or(0, |list| {
+        word32(local::local_timezone_offset_seconds(float::of_bits(t), list))
+    })
 }
 
+#[tactic(auto, unfolding(crate::specs::Inner::under_list))]
 pub fn exports_local_time(zone: &[u8], t: u64) -> u64
     ensures { result ≡ under_list zone.now (to_bits binary64 (local_time_f (records zone.now) (of_bits binary64 t))) }
 {
-    if !zone::accept(zone) {
-        return 0;
-    }
-    float::bits_of(local::local_time(float::of_bits(t), zone))
+    ZoneList::accept(zone).map_or(0, |list| {
+        float::bits_of(local::local_time(float::of_bits(t), list))
+    })
 }
 
+#[tactic(auto, unfolding(crate::specs::Inner::under_list))]
 pub fn exports_utc_t(zone: &[u8], t: u64) -> u64
     ensures { result ≡ under_list zone.now (to_bits binary64 (utc_f (records zone.now) (of_bits binary64 t))) }
 {
-    if !zone::accept(zone) {
-        return 0;
-    }
-    float::bits_of(local::utc_t(float::of_bits(t), zone))
+    ZoneList::accept(zone).map_or(0, |list| {
+        float::bits_of(local::utc_t(float::of_bits(t), list))
+    })
 }
 
 // ---- digits: a count of digits is taken from 1 to the block's bytes, and a number by as many digits as the pad has

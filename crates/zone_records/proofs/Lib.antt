@@ -1,4 +1,3 @@
-pub mod Halving
-pub mod Judging
+pub mod Slices
 pub mod Same
 pub mod Encoding

@@ -13,7 +13,7 @@ use Rattle.zone.specs.Zone.{Record, records, is_zone_list, accepts, offset_at}
 use Rattle.zone.proofs.Rule.{is_true}
 use Rattle.zone_records.specs.declared.ZoneRecord.{ZoneRecord}
 use Rattle.zone_records.specs.Slice.{as_records}
-use Rattle.zone_records.proofs.Halving.{records-length}
+use Rattle.zone_records.proofs.Slices.{records-length}
 
 module _ (bytes : List ℕ) (zone : List ZoneRecord) (holds : records bytes ≡ as_records zone) where
   -- r is what `zone::lookup` ensures of the bytes, and s what `lookup` ensures of the slice

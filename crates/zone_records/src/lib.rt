@@ -2,7 +2,9 @@
 // same definitions.
 #![tactic(auto)]
 
-ghost use Rattle.std.specs.Prelude.{◌≡◌, ◌≤◌, take};
+ghost use Rattle.std.specs.Prelude.{◌≡◌, ◌≤◌, leb, nat_abs, length, take};
+ghost use Rattle.std.specs.List.{list_all, IsAllAdjacentAnswer};
+ghost use Rattle.std.specs.Int.Signed.{lt_z};
 ghost use Rattle.zone.specs.Zone.{IsZoneList, is_zone_list, offset_at};
 ghost use Rattle.zone_records.specs.Slice.{as_records};
 
@@ -12,57 +14,48 @@ pub struct ZoneRecord {
     pub offset: i32,
 }
 
-// Whether a slice of records is a zone list, by the test that bytes are judged by: each record is judged beside the second before it. The tests
-// are joined by `&` and `|`, so that a turn has one way through it.
+// Whether a slice of records is a zone list, by the test that bytes are judged by.
 pub fn accept(zone: &[ZoneRecord]) -> bool
     ensures { result ≡ is_zone_list (as_records zone.now) }
 {
-    let n = zone.len();
-    let mut kept = (1 <= n) & (n <= 1024);
-    let mut before = 0;
-    let mut i = 0;
-    while kept & (i < n) {
-        let next = zone[i];
-        kept = (-86399 <= next.offset)
-            & (next.offset <= 86399)
-            & ((i == 0) | (before < next.second));
-        before = next.second;
-        i += 1;
-    }
-    kept
+    (1..=1024).contains(&zone.len()) && are_bounded(zone) && are_rising(zone)
 }
 
-// The offset that a slice of records gives at a second, by halving: `low` is the first record or not after `second`, and from `high` on
-// every record is after it.
+// Whether each offset is less than a day, forwards or back.
+fn are_bounded(zone: &[ZoneRecord]) -> bool
+    ensures { result ≡ list_all (λ z. leb (nat_abs z.offset) 86399) zone.now }
+{
+    zone.iter()
+        .all(|record| (-86399..=86399).contains(&record.offset))
+}
+
+// Whether each second is before the next.
+fn are_rising(zone: &[ZoneRecord]) -> bool
+    ensures { IsAllAdjacentAnswer (λ y z b. b ≡ lt_z y.second z.second) zone.now result }
+{
+    zone.is_sorted_by(|before, after| before.second < after.second)
+}
+
+// The offset that a slice of records gives at a second: of the last record not after it, or of the first.
 pub fn lookup(zone: &[ZoneRecord], second: i64) -> i32
     requires { IsZoneList (as_records zone.now) }
     ensures { result ≡ offset_at (as_records zone.now) second }
 {
-    let mut low = 0;
-    let mut high = zone.len();
-    while low + 1 < high {
-        let middle = (low + high) / 2;
-        if zone[middle].second <= second {
-            low = middle;
-        } else {
-            high = middle;
-        }
-    }
-    zone[low].offset
+    let after = zone.partition_point(|record| record.second <= second);
+    zone[after.saturating_sub(1)].offset
 }
 
-// The first `n` records of an array, judged and looked up in: from plain values to a slice and back. The array
-// holds one record more than a list may have, so that too many can be judged as well.
-pub fn accept_first(all: [ZoneRecord; 1025], n: usize) -> bool
-    requires { n ≤ 1025 }
-    ensures { result ≡ is_zone_list (as_records (take n all)) }
+// The first `n` records of a slice, judged and looked up in.
+pub fn accept_first(all: &[ZoneRecord], n: usize) -> bool
+    requires { n ≤ length all.now }
+    ensures { result ≡ is_zone_list (as_records (take n all.now)) }
 {
     accept(&all[..n])
 }
 
-pub fn lookup_first(all: [ZoneRecord; 1025], n: usize, second: i64) -> i32
-    requires { (n ≤ 1025) × IsZoneList (as_records (take n all)) }
-    ensures { result ≡ offset_at (as_records (take n all)) second }
+pub fn lookup_first(all: &[ZoneRecord], n: usize, second: i64) -> i32
+    requires { (n ≤ length all.now) × IsZoneList (as_records (take n all.now)) }
+    ensures { result ≡ offset_at (as_records (take n all.now)) second }
 {
     lookup(&all[..n], second)
 }

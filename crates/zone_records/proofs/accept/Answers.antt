@@ -1,25 +1,26 @@
--- `zone_records::accept` meets its contract: a turn judges one record more. Assumes nothing.
-use Rattle.std.proofs.Common.{◌≡◌, ◌∙◌, refl, sym, rules, w64, w32, length, false, ◌&&◌}
-use lib.Dec.{ltb}
-use lib.ListN.{get_or}
-use mir.Val.{SFits}
-use Rattle.zone_records.proofs.Halving.{none}
-use Rattle.zone_records.proofs.Judging.{judged-none, judged-next, judged-all}
+-- `zone_records::accept` meets its contract: the size, each offset, and each second and the next. Assumes nothing.
+use mathlib.Core.Path.{sym, ◌∙◌}
+use mathlib.Core.Bool.{true≢false}
+use Prim.Native.Nat.{◌≤◌}
+use lib.ListN.{length}
+use Rattle.std.proofs.Common.{rules}
+use Rattle.zone_records.proofs.Slices.{judged, other_size, out_of_bounds}
 use Rattle.zone_records.proofs.accept.Goals as goal
+use Rattle.zone_records.proofs.accept.Goals.{then-contains, else-contains}
 
-pub loop-kept-init : goal.loop-kept-init
-loop-kept-init c = (judged-none c.args.zone.now, (refl, refl, refl))
+pub returns-then-are_bounded : goal.returns-then-are_bounded
+returns-then-are_bounded c =
+    elim c.if-contains.branch [
+      | then-contains w ↦
+          let some : 1 ≤ length c.args.zone.now = search rules in
+          let few : length c.args.zone.now ≤ 1024 = search rules in
+          judged _ some few (sym w.are_bounded.ensures ∙ sym w.value-is ∙ c.if-are_bounded.true) _ c.are_rising.ensures
+      | else-contains w ↦ absurd (true≢false (sym c.if-are_bounded.true ∙ w.value-is ∙ w.if-contains.false))
+    ]
 
-pub loop-kept-preserved : goal.loop-kept-preserved
-loop-kept-preserved c =
-    let list = c.args.zone.now in
-    let l = c.loop-kept in
-    let second : SFits w64 (get_or list l.i none).second = search rules in
-    let offset : SFits w32 (get_or list l.i none).offset = search rules in
-    judged-next list l.invariant.0 l.i l.kept _ l.invariant.1.0 l.invariant.1.1 l.invariant.1.2 c.loop-kept-test.true second.sfits offset.sfits
-
-pub returns : goal.returns
-returns c =
-    let v = c.loop-kept.invariant in
-    let end : (v.0.kept && ltb v.0.i (length c.args.zone.now)) ≡ false = (λ j. v.1.1 j && ltb (v.1.0 j) (length c.args.zone.now)) ∙ c.loop-kept-test.false in
-    sym v.1.1 ∙ judged-all c.args.zone.now v.0 end
+pub returns-else-are_bounded : goal.returns-else-are_bounded
+returns-else-are_bounded c =
+    elim c.if-contains.branch [
+      | then-contains w ↦ c.if-are_bounded.false ∙ out_of_bounds _ (sym w.are_bounded.ensures ∙ sym w.value-is ∙ c.if-are_bounded.false)
+      | else-contains w ↦ c.if-are_bounded.false ∙ other_size _ (λ some few. search rules)
+    ]

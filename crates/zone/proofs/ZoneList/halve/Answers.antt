@@ -1,22 +1,18 @@
 -- `ZoneList::halve` meets its contract: halving keeps `Narrowed`. Assumes nothing.
-use mathlib.Core.Path.{◌∙◌, refl, subst}
+use mathlib.Core.Path.{refl, sym, ap, ◌∙◌}
 use native.Mathlib.Omega.{arith}
-use lib.IntN.{ℤ}
-use lib.Signed.{◌≤ℤ◌, ◌<ℤ◌}
-use mir.Syntax.{w64}
-use mir.Val.{to_z, of_z}
-use Rattle.integers.proofs.Machine.{kept, le-true, le-false}
+use lib.Signed.{le_z}
+use Rattle.integers.proofs.Machine.{kept}
 use Rattle.zone.proofs.Narrowed.{halved-up, halved-down}
 use Rattle.zone.proofs.ZoneList.halve.Goals as goal
-use Rattle.zone.proofs.ZoneList.halve.Goals.{then-second_at-second, else-second_at-second}
+use Rattle.zone.proofs.ZoneList.halve.Goals.{then-is_not_after, else-is_not_after}
 
 pub returns : goal.returns
 returns c =
-    let read = c.second_at in
-    let z = to_z w64 (of_z w64 read.result) in (
-      elim c.if-second_at-second.branch [
-        | then-second_at-second w ↦ halved-up _ c.args.self.accepted _ c.args.run.low c.args.run.size _ _ c.requires (omega arith) (kept {w = w64} (record { sfits = read.type_inv }) ∙ read.ensures) (subst (λ (t : ℤ). z ≤ℤ t) (kept c.ranges.second) (le-true w.if-second_at-second.true)) w.low-is
-        | else-second_at-second w ↦ halved-down _ c.args.self.accepted _ c.args.run.low c.args.run.size _ _ c.requires (omega arith) (kept {w = w64} (record { sfits = read.type_inv }) ∙ read.ensures) (subst (λ (t : ℤ). t <ℤ z) (kept c.ranges.second) (le-false w.if-second_at-second.false)) w.low-is
+    let test = c.is_not_after.ensures ∙ ap (le_z _) (kept c.ranges.second) in (
+      elim c.if-is_not_after.branch [
+        | then-is_not_after w ↦ halved-up _ c.args.self.accepted _ c.args.run.low c.args.run.size _ c.requires (omega arith) (sym test ∙ w.if-is_not_after.true) w.low-is
+        | else-is_not_after w ↦ halved-down _ c.args.self.accepted _ c.args.run.low c.args.run.size _ c.requires (omega arith) (sym test ∙ w.if-is_not_after.false) w.low-is
       ],
       refl,
     )
