@@ -3,7 +3,7 @@
 // exact domain is in proofs/Outcomes.antt.
 #![tactic(auto)]
 
-ghost use Rattle.std.specs.Prelude.{◌≡◌, ◌<◌, true, ℕ, is_some, IfOk, Result};
+ghost use Rattle.std.specs.Prelude.{◌≡◌, ◌<◌, ℕ, is_some, IfOk, Result};
 ghost use Rattle.zone.specs.Zone.{records};
 ghost use Rattle.answer.specs.declared.Refusal.{Refusal};
 ghost use Rattle.new_date.specs.Calls.{set, bits_of, shift_in};
@@ -19,12 +19,17 @@ use zone::ZoneList;
 
 // ---- the rows of the table. Row 2 is `timevalue`'s.
 
-// Row 1.
-fn list_of<'a>(zone: &'a [u8]) -> Result<ZoneList<'a>, Refusal>
-    ensures row { (rest : Result ℕ Refusal) → zone_row true zone.now rest ≡ past result rest }
-    ensures same { IfOk result (λ list. list.bytes.now ≡ zone.now) }
+// Row 1, of a local call. It is inlined: where the list is handed on to a function, it is copied first, for a UTC call too, which has none.
+#[inline(always)]
+fn list_of<'a>(zone: Option<&'a [u8]>) -> Result<Option<ZoneList<'a>>, Refusal>
+    ensures row { (rest : Result ℕ Refusal) → zone_row (is_some zone.entry) (zone_bytes zone.entry) rest ≡ past result rest }
+    ensures same { IfOk result (λ list. (is_some list ≡ is_some zone.entry) × (list_bytes list ≡ zone_bytes zone.entry)) }
 {
-    ZoneList::accept(zone).ok_or(Refusal::ZoneList)
+    let Some(bytes) = zone else {
+        return Ok(None);
+    };
+    let list = ZoneList::accept(bytes).ok_or(Refusal::ZoneList)?;
+    Ok(Some(list))
 }
 
 // Rows 3 and 4, of a call that has so many bits.
@@ -47,10 +52,7 @@ fn record_of<'a>(fields: &'a [u8], bits: u32) -> Result<FieldRecord<'a>, Refusal
 pub fn build(zone: Option<&[u8]>, fields: &[u8]) -> Result<u64, Refusal>
     ensures { result ≡ build_outcome (is_some zone.entry) (zone_bytes zone.entry) fields.now }
 {
-    let list = match zone {
-        Some(bytes) => Some(list_of(bytes)?),
-        None => None,
-    };
+    let list = list_of(zone)?;
     let arguments = record_of(fields, 7)?;
     Ok(new_date::value_of(list, new_date::built(arguments)))
 }
@@ -98,10 +100,7 @@ fn start_of(zone: Option<ZoneList>, date: TimeValue) -> f64
 pub fn set(first: Part, zone: Option<&[u8]>, time: u64, fields: &[u8]) -> Result<u64, Refusal>
     ensures { result ≡ set_outcome first (is_some zone.entry) (zone_bytes zone.entry) time fields.now }
 {
-    let list = match zone {
-        Some(bytes) => Some(list_of(bytes)?),
-        None => None,
-    };
+    let list = list_of(zone)?;
     let date = timevalue::time_value(time).ok_or(Refusal::TimeValue)?;
     let t = start_of(list, date);
     let arguments = record_of(fields, bits_of(first))?;
