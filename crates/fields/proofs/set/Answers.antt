@@ -7,7 +7,7 @@ use Rattle.zone.specs.Zone.{Accepted, accepts, records}
 use Rattle.timevalue.specs.TimeValue.{time_value_of}
 use Rattle.new_date.specs.Calls.{set, bits_of, new_date_of, value_out, value_from}
 use Rattle.field_record.specs.FieldRecord.{has_length, has_other_bit}
-use Rattle.std.specs.Prelude.{Some, None, Ok}
+use Rattle.std.specs.Prelude.{Some, Ok}
 use Rattle.answer.proofs.Turned.{turned-back}
 use Rattle.fields.specs.Outcome.{start_of, set_outcome}
 use Rattle.fields.proofs.Rows.{listed}
