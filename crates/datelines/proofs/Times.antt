@@ -17,7 +17,7 @@ use Rattle.float.proofs.Whole.{of_int-whole}
 use Rattle.float.proofs.Rounding.{trunc_z-whole}
 use Rattle.float.proofs.Casts.{to_signed-whole}
 use Rattle.std.specs.Prelude.{Ok}
-use Rattle.answer.specs.Answer.{time_bits, text_reply}
+use Rattle.answer.specs.Answer.{text_reply}
 use Rattle.writer.specs.Outcome.{written}
 use Rattle.writer.specs.Writer.{iso_outcome}
 use Rattle.writer.proofs.Outcomes.{written-whole, iso-writes}
