@@ -6,8 +6,8 @@ use Rattle.datelines.proofs.Streams.{iso-length}
 use Rattle.datelines.proofs.Isos.{reply-is-text, text-length, iso-puts}
 use Rattle.datelines.proofs.put_iso.Goals as goal
 
-pub unwrap-requires : goal.unwrap-requires
-unwrap-requires c = ap is_ok (reply-is-text c.requires.0 c.args.output.now c.requires.1 c.to_iso_string.ensures)
+pub unwrap-written-requires : goal.unwrap-written-requires
+unwrap-written-requires c = ap is_ok (reply-is-text c.requires.0 c.args.output.now c.requires.1 c.to_iso_string.ensures)
 
 pub overflow_add-output : goal.overflow_add-output
 overflow_add-output c =
