@@ -305,7 +305,7 @@ lead-pos : (x t : ℕ) → 0 < x * 4503599627370496 + t → 0 < lead x t
 lead-pos zero t h = omega arith
 lead-pos (suc x) t h = omega arith
 
-pub part-pos : (n c : ℕ) → 0 < n → n / 2 ^ c * 2 ^ c ≡ n → 0 < n / 2 ^ c
+part-pos : (n c : ℕ) → 0 < n → n / 2 ^ c * 2 ^ c ≡ n → 0 < n / 2 ^ c
 part-pos n c P e = elim (split 0 (n / 2 ^ c)) [
   | inl g ↦ g
   | inr g ↦ absurd (lt_irrefl 0 (subst (λ (z : ℕ). 0 < z) (sym e ∙ ap (λ (z : ℕ). z * 2 ^ c) (nil (n / 2 ^ c) g) ∙ zero-mul (2 ^ c)) P))
@@ -327,17 +327,8 @@ module _ (a b : ℕ) (A : a < 2 ^ 64) (B : b < 2 ^ 64) (fa : a / 2 ^ 52 % 2 ^ 11
   abbrev j : ℕ
   j = place (b / 2 ^ 52 % 2 ^ 11)
 
-  pub divisor-pos : 0 < n
+  divisor-pos : 0 < n
   divisor-pos = lead-pos (b / 2 ^ 52 % 2 ^ 11) (b % 2 ^ 52) (omega arith)
-
-  pub divisor-lt : n < 2 ^ 53
-  divisor-lt = lead-lt (b / 2 ^ 52 % 2 ^ 11) (b % 2 ^ 52) (mod-lt b (pow_pos 52))
-
-  pub place-lt : i ≤ 2045
-  place-lt = place-le (a / 2 ^ 52 % 2 ^ 11) 2045 (omega arith)
-
-  pub place-lt' : j ≤ 2045
-  place-lt' = place-le (b / 2 ^ 52 % 2 ^ 11) 2045 (omega arith)
 
   pub rem_is : rem binary64 (of_bits binary64 a) (of_bits binary64 b) ≡ round binary64 (finite a A fa).s (m * 2 ^ i % (n * 2 ^ j)) (2 ^ 1074)
   rem_is = rem_value (of_bits binary64 a) (of_bits binary64 b) (finite a A fa).s (finite b B fb).s (m * 2 ^ i) (n * 2 ^ j) (2 ^ 1074) (pow_pos 1074) (mul-pos divisor-pos (pow_pos j)) (finite a A fa).value (finite b B fb).value
