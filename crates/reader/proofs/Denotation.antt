@@ -66,13 +66,13 @@ module _ (zone text : List ℕ) (a : Accepted zone) where
       go (fault f) e = turned-back f (sym (text-refused zone text f accepted e))
 
   no-time : (f : Fault) (v : ℕ) → Refused (refusal_of f) ≡ Time v → ⊥
-  no-time f v e = let z : ◌≡◌ {A = ℕ} 0 1 = cc in omega arith
+  no-time f v e = cc
 
   no-instant : (f : Fault) → Refused (refusal_of f) ≡ Refused Instant → ⊥
-  no-instant Short e = let z : ◌≡◌ {A = ℕ} 0 1 = cc in omega arith
-  no-instant Bad e = let z : ◌≡◌ {A = ℕ} 0 1 = cc in omega arith
-  no-instant Range e = let z : ◌≡◌ {A = ℕ} 0 1 = cc in omega arith
-  no-instant Trailing e = let z : ◌≡◌ {A = ℕ} 0 1 = cc in omega arith
+  no-instant Short e = cc
+  no-instant Bad e = cc
+  no-instant Range e = cc
+  no-instant Trailing e = cc
 
   -- 0 with the instant t exactly when the text denotes t, in the range
   pub reads-instant : (t : ℤ) → InRange t → (read_outcome zone text ≡ Time (time_bits t)) ↔ Denotes zone text t
@@ -90,7 +90,7 @@ module _ (zone text : List ℕ) (a : Accepted zone) where
               let bits : time_bits u ≡ time_bits t = cc in
               subst (Denotes zone text) (bits-unique u t k h bits) d)
               (λ c. let other : Refused Instant ≡ Time (time_bits t) = answer-beyond u (nleb→lt (nat_abs u) time_range c) ∙ sym (answered u d) ∙ e in
-              let z : ◌≡◌ {A = ℕ} 0 1 = cc in absurd (omega arith))
+              cc)
 
   -- 9 exactly when it denotes an instant outside the range
   pub reads-outside : (read_outcome zone text ≡ Refused Instant) ↔ ((t : ℤ) × Denotes zone text t × (time_range < nat_abs t))
@@ -104,7 +104,7 @@ module _ (zone text : List ℕ) (a : Accepted zone) where
           go (instant u d) =
               by-test (leb (nat_abs u) time_range)
               (λ c. let other : Time (time_bits u) ≡ Refused Instant = answer-inside u (leb→le (nat_abs u) time_range c) ∙ sym (answered u d) ∙ e in
-              let z : ◌≡◌ {A = ℕ} 0 1 = cc in absurd (omega arith))
+              cc)
               (λ c. (u, d, nleb→lt (nat_abs u) time_range c))
 
 -- a text is accepted under a list exactly when "none of the reader's refusals applies to the two"
@@ -117,8 +117,8 @@ accepted-exactly zone text = (λ a. (time_bits a.t, (reads-instant zone text a.l
         by-test (leb (nat_abs t) time_range)
         (λ c. record { list = a; t = t; denotes = d; inside = leb→le (nat_abs t) time_range c })
         (λ c. let other : Refused Instant ≡ Time v = answer-beyond t (nleb→lt (nat_abs t) time_range c) ∙ sym (answered zone text a t d) ∙ e in
-        let z : ◌≡◌ {A = ℕ} 0 1 = cc in absurd (omega arith))
+        cc)
 
     by-list : (v : ℕ) (b : Bool) → accepts zone ≡ b → read_outcome zone text ≡ Time v → AcceptedText zone text
     by-list v true p e = in-range (accepts-sound zone p) v e (reading zone text (accepts-sound zone p))
-    by-list v false p e = let other : Refused ZoneList ≡ Time v = list-refused zone text p ∙ e in let z : ◌≡◌ {A = ℕ} 0 1 = cc in absurd (omega arith)
+    by-list v false p e = let other : Refused ZoneList ≡ Time v = list-refused zone text p ∙ e in cc
