@@ -27,9 +27,9 @@ midnight-read h m s ms e q = go (eqb m 0) (eqb s 0) (eqb ms 0) refl refl refl (s
   where
     go : (x y z : Bool) → eqb m 0 ≡ x → eqb s 0 ≡ y → eqb ms 0 ≡ z → cond x (cond y z false) false ≡ true → (m ≡ 0) × (s ≡ 0) × (ms ≡ 0)
     go true true true a b c e = (eqb-true m 0 a, eqb-true s 0 b, eqb-true ms 0 c)
-    go true true false a b c e = absurd (let z : ◌≡◌ {A = ℕ} 0 1 = cc in omega arith)
-    go true false z a b c e = absurd (let z : ◌≡◌ {A = ℕ} 0 1 = cc in omega arith)
-    go false y z a b c e = absurd (let z : ◌≡◌ {A = ℕ} 0 1 = cc in omega arith)
+    go true true false a b c e = cc
+    go true false z a b c e = cc
+    go false y z a b c e = cc
 
 midnight-written : (h m s ms : ℕ) → (h ≡ 24 → (m ≡ 0) × (s ≡ 0) × (ms ≡ 0)) → hour_allowed h m s ms ≡ true
 midnight-written h m s ms q = go (eqb h 24) refl
@@ -47,8 +47,8 @@ ending-read y d t z [] {f} {u} e = go (time_allowed t) refl e
   where
     go : (x : Bool) → time_allowed t ≡ x → cond x (ok (timed y d t z) []) (fault Range) ≡ ok f u → (◌≡◌ {A = List ℕ} [] []) × (time_allowed t ≡ true) × (f ≡ timed y d t z)
     go true h e = (refl, h, cc)
-    go false h e = absurd (let z : ◌≡◌ {A = ℕ} 0 1 = cc in omega arith)
-ending-read y d t z (b ∷ s) e = absurd (let z : ◌≡◌ {A = ℕ} 0 1 = cc in omega arith)
+    go false h e = cc
+ending-read y d t z (b ∷ s) e = cc
 
 -- the end after a date, or `T`
 rest_read : {C : Type 0} (y : Year) (d : Date) (s : List ℕ) {f : Form} {u : List ℕ} → rest y d s ≡ ok f u → (s ≡ [] → f ≡ date y d → C) → ((t : List ℕ) → s ≡ 84 ∷ t → time_part y d t ≡ ok f u → C) → C
@@ -58,7 +58,7 @@ rest_read {C} y d (b ∷ s) {f} {u} e end time = go (eqb b 84) refl e
   where
     go : (x : Bool) → eqb b 84 ≡ x → cond x (time_part y d s) (fault (after_date d)) ≡ ok f u → C
     go true h e = time s (ap (λ c. c ∷ s) (eqb-true b 84 h)) e
-    go false h e = absurd (let z : ◌≡◌ {A = ℕ} 0 1 = cc in omega arith)
+    go false h e = cc
 
 time-bounds : (t : Time) → Clock t → time_allowed t ≡ true → TimeBounds t
 time-bounds t c e = record {

@@ -33,7 +33,7 @@ digits-read zero v s u t e =
     let z : v ≡ u = cc in
     let q : s ≡ t = cc in
     record { value = 0; small = omega arith; whole = omega arith; word = q }
-digits-read (suc n) v [] u t e = absurd (let z : ◌≡◌ {A = ℕ} 0 1 = cc in omega arith)
+digits-read (suc n) v [] u t e = cc
 digits-read (suc n) v (b ∷ s) u t e = go (leb 48 b) (leb b 57) refl refl (digits-read n (10 * v + (b - 48)) s u t) e
   where
     go : (x y : Bool) → leb 48 b ≡ x → leb b 57 ≡ y → (digits_after n (10 * v + (b - 48)) s ≡ ok u t → Written n (10 * v + (b - 48)) s u t)
@@ -48,9 +48,9 @@ digits-read (suc n) v (b ∷ s) u t e = go (leb 48 b) (leb b 57) refl refl (digi
           whole = r.whole ∙ grown n v (b - 48) r.value;
           word = rw (digits-cons n (b - 48) r.value d r.small, c) (ap (λ l. b ∷ l) r.word);
         }
-    go true false h g more e = absurd (let z : ◌≡◌ {A = ℕ} 0 1 = cc in omega arith)
-    go false true h g more e = absurd (let z : ◌≡◌ {A = ℕ} 0 1 = cc in omega arith)
-    go false false h g more e = absurd (let z : ◌≡◌ {A = ℕ} 0 1 = cc in omega arith)
+    go true false h g more e = cc
+    go false true h g more e = cc
+    go false false h g more e = cc
 
 digits-written : (n v w : ℕ) (t : List ℕ) → w < 10 ^ n → digits_after n v (digits n w ++ t) ≡ ok (v * 10 ^ n + w) t
 unfolding digits_after

@@ -26,7 +26,7 @@ module _ {A B C : Type 0} {s u : List ℕ} {b : B} where
     where
       go : (o : Out A) → p s ≡ o → bind o k ≡ ok b u → C
       go (ok a t) h e = then a t h e
-      go (fault f) h e = absurd (let z : ◌≡◌ {A = ℕ} 0 1 = cc in omega arith)
+      go (fault f) h e = cc
 
 within-read : (low high w : ℕ) {t u : List ℕ} {v : ℕ} → within low high w t ≡ ok v u → (low ≤ v) × (v ≤ high) × (v ≡ w) × (t ≡ u)
 unfolding within
@@ -37,8 +37,8 @@ within-read low high w {t} {u} {v} e = go (leb low w) (leb w high) refl refl e
         let q : v ≡ w = cc in
         let r : t ≡ u = cc in
         (omega (arith, leb-true low w h), omega (arith, leb-true w high g), q, r)
-    go true false h g e = absurd (let z : ◌≡◌ {A = ℕ} 0 1 = cc in omega arith)
-    go false y h g e = absurd (let z : ◌≡◌ {A = ℕ} 0 1 = cc in omega arith)
+    go true false h g e = cc
+    go false y h g e = cc
 
 module _ {A C : Type 0} {s u : List ℕ} {a : A} where
   on-choose : (b : ℕ) (p q : Reader A) → choose b p q s ≡ ok a u → ((t : List ℕ) → s ≡ b ∷ t → p t ≡ ok a u → C) → (q s ≡ ok a u → C) → C
@@ -63,10 +63,10 @@ module _ {A C : Type 0} {s u : List ℕ} {a : A} where
     where
       pick : (c : ℕ) (t : List ℕ) → s ≡ c ∷ t → (x : Bool) → eqb c b ≡ x → bind (cond x (ok c t) (fault Bad)) k ≡ ok a u → C
       pick c t h true g e = let q = eqb-true c b g in then t (h ∙ ap (λ d. d ∷ t) q) (rw q at e)
-      pick c t h false g e = absurd (let z : ◌≡◌ {A = ℕ} 0 1 = cc in omega arith)
+      pick c t h false g e = cc
 
       go : (t : List ℕ) → s ≡ t → after (byte b) k t ≡ ok a u → C
-      go [] h e = absurd (let z : ◌≡◌ {A = ℕ} 0 1 = cc in omega arith)
+      go [] h e = cc
       go (c ∷ t) h e = pick c t h (eqb c b) refl e
 
   on-number : (n : ℕ) (k : ℕ → Reader A) → after (digits_after n 0) k s ≡ ok a u → ((v : ℕ) (t : List ℕ) → Number n v s t → k v t ≡ ok a u → C) → C
@@ -96,7 +96,7 @@ unfolding signed_year
 signed-read true y {s} {t} {Y} l e = go (eqb y 0) refl e
   where
     go : (x : Bool) → eqb y 0 ≡ x → cond x (fault Range) (ok (six true y) s) ≡ ok Y t → (Y ≡ six true y) × YearBounds (six true y) × (s ≡ t)
-    go true h e = absurd (let z : ◌≡◌ {A = ℕ} 0 1 = cc in omega arith)
+    go true h e = cc
     go false h e = let z = eqb-false y 0 h in (cc, (omega (arith, z), omega arith), cc)
 signed-read false y l e = (cc, omega arith, cc)
 

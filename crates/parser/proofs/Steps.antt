@@ -66,7 +66,7 @@ unfolding block_of after give
 block_fault {text} {at} n {f} h = record { same = go (digits_after n 0 (drop at text)) h.same }
   where
     go : (o : Out ℕ) → fault f ≡ bind o (λ v. give (from_le_bytes (digits n v))) → fault f ≡ o
-    go (ok v t) e = absurd (let z : ◌≡◌ {A = ℕ} 0 1 = cc in omega arith)
+    go (ok v t) e = cc
     go (fault g) e = e
 
 number_of : {text : List ℕ} {at : ℕ} (n : ℕ) {block : ℕ} {t : List ℕ} → Reads (block_of n) text at (ok block t) → IsDigits text at n block t
@@ -78,7 +78,7 @@ number_of {text} {at} n {block} {t} h = go (digits_after n 0 (drop at text)) ref
         let b : block ≡ from_le_bytes (digits n v) = cc in
         let q : t ≡ u = cc in
         record { value = v; small = (number_read n d).small; bytes = b; same = record { same = rw q (sym d) } }
-    go (fault g) d e = absurd (let z : ◌≡◌ {A = ℕ} 0 1 = cc in omega arith)
+    go (fault g) d e = cc
 
 module _ {text : List ℕ} {at : ℕ} (n : ℕ) {block : ℕ} {t : List ℕ} (h : Reads (block_of n) text at (ok block t)) where
   pub block_fits : n ≡ 4 → block < 2 ^ 32
