@@ -7,9 +7,8 @@ ghost use Rattle.datelines.specs.Lines.{decimal, signed_decimal, iso_of_bits, ac
 
 mod open_line;
 
-pub use open_line::OpenLine;
-
 use answer::Reply;
+pub use open_line::OpenLine;
 use text::Output;
 
 // ---- a line's answer
