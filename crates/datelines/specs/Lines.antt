@@ -1,7 +1,7 @@
 -- What `datecheck` prints for an input, document 01: "under the list (0, 0), one text a line in, out the number and, for 0, the time value and
 -- ISO text". An empty line is the empty text, a last line without a newline counts, and a line is of any length. Definitions only. Assumes
 -- nothing.
-use Rattle.std.specs.Prelude.{◌≡◌, cond, List, [], ◌∷◌, ◌++◌, ℕ, zero, suc, ◌+◌, ◌/◌, ◌%◌, ltb, eqb, ℤ, pos, negsuc, length, replicate, Result, Ok, Err}
+use Rattle.std.specs.Prelude.{◌≡◌, cond, List, [], ◌∷◌, ◌++◌, ℕ, zero, suc, ◌/◌, ◌%◌, ltb, eqb, ℤ, pos, negsuc, length, replicate, Result, Ok, Err}
 use Rattle.std.proofs.lemmas.List.Edits.{sets}
 use Rattle.text.specs.Inner.{Appended}
 use Rattle.text.specs.declared.output.Output.{Output}

@@ -2,13 +2,12 @@
 // The program reads and writes; all else is here, on slices.
 #![tactic(auto)]
 
-ghost use Rattle.text.specs.Inner.{HasRoom};
-ghost use Rattle.datelines.specs.Lines.{decimal, signed_decimal, iso_of_bits, accepted_line, refused_line, line_of, IsTimeBits, Appends};
+ghost use Rattle.text.specs.Inner.{HasRoom, Appended};
+ghost use Rattle.datelines.specs.Lines.{decimal, signed_decimal, iso_of_bits, accepted_line, refused_line, newline, line_of, IsTimeBits, Appends};
 
 mod open_line;
 
 pub use open_line::OpenLine;
-
 use text::Output;
 
 // ---- a line's answer
@@ -46,6 +45,13 @@ fn put_iso(bits: u64, output: &mut Output)
     output.at += written.length;
 }
 
+fn end_line(output: &mut Output)
+    requires { HasRoom output.old 1 }
+    ensures { Appended output.old newline 1 output.new }
+{
+    output.put(b'\n');
+}
+
 fn put_accepted(bits: u64, output: &mut Output)
     requires { IsTimeBits bits × HasRoom output.old 64 }
     ensures { Appends output.old (accepted_line bits) output.new }
@@ -54,7 +60,7 @@ fn put_accepted(bits: u64, output: &mut Output)
     put_signed(float::as_i64(float::of_bits(bits)), output);
     output.put(b' ');
     put_iso(bits, output);
-    output.put(b'\n');
+    end_line(output);
 }
 
 fn put_refused(number: u32, output: &mut Output)
@@ -62,7 +68,7 @@ fn put_refused(number: u32, output: &mut Output)
     ensures { Appends output.old (refused_line number) output.new }
 {
     put_decimal(number as u64, output);
-    output.put(b'\n');
+    end_line(output);
 }
 
 // Writes the answer to a text.

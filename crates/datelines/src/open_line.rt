@@ -18,7 +18,7 @@ pub struct OpenLine {
 }
 
 impl OpenLine {
-    ghost use Rattle.std.specs.Prelude.{◌*◌, length};
+    ghost use Rattle.std.specs.Prelude.{◌*◌, ◌<◌, ◌↔◌, IsTrue, length};
     ghost use Rattle.std.proofs.lemmas.List.Edits.{sets};
     ghost use Rattle.text.specs.Inner.{HasRoom};
     ghost use Rattle.datelines.specs.Lines.{behind, prints, emitted, left, lent, last_of, Appends};
@@ -48,14 +48,20 @@ impl OpenLine {
         }
     }
 
+    // Whether a byte of the line has come.
+    fn is_open(&self) -> bool
+        ensures { IsTrue result ↔ (0 < self.now.kept) }
+    {
+        self.kept > 0
+    }
+
     // The input has ended: the answer to the open line, if there is one.
     pub fn finish(&self, output: &mut Output)
         requires { HasRoom output.old 64 }
         ensures { Appends output.old (last_of (begun self.now)) output.new }
     {
-        if self.kept == 0 {
-            return;
+        if self.is_open() {
+            put_line(&self.bytes[..self.kept], output);
         }
-        put_line(&self.bytes[..self.kept], output);
     }
 }

@@ -289,7 +289,13 @@ pub fn exports_pad_two(t: u64) -> u64
     ensures { Packed (digits 2 (t % 100)) 2 result }
 {
     let mut bytes = [0u8; 8];
-    text::pad_two((t % 100) as u8, &mut Output { bytes: &mut bytes, at: 0 });
+    text::pad_two(
+        (t % 100) as u8,
+        &mut Output {
+            bytes: &mut bytes,
+            at: 0,
+        },
+    );
     little_endian::u64_at(&bytes, 0)
 }
 
@@ -297,7 +303,13 @@ pub fn exports_pad_three(t: u64) -> u64
     ensures { Packed (digits 3 (t % 1000)) 3 result }
 {
     let mut bytes = [0u8; 8];
-    text::pad_three((t % 1000) as u16, &mut Output { bytes: &mut bytes, at: 0 });
+    text::pad_three(
+        (t % 1000) as u16,
+        &mut Output {
+            bytes: &mut bytes,
+            at: 0,
+        },
+    );
     little_endian::u64_at(&bytes, 0)
 }
 
@@ -305,7 +317,13 @@ pub fn exports_pad_four(t: u64) -> u64
     ensures { Packed (digits 4 (t % 10000)) 4 result }
 {
     let mut bytes = [0u8; 8];
-    text::pad_four((t % 10000) as u32, &mut Output { bytes: &mut bytes, at: 0 });
+    text::pad_four(
+        (t % 10000) as u32,
+        &mut Output {
+            bytes: &mut bytes,
+            at: 0,
+        },
+    );
     little_endian::u64_at(&bytes, 0)
 }
 
@@ -313,7 +331,13 @@ pub fn exports_pad_five(t: u64) -> u64
     ensures { Packed (digits 5 (t % 100000)) 5 result }
 {
     let mut bytes = [0u8; 8];
-    text::pad_five((t % 100000) as u32, &mut Output { bytes: &mut bytes, at: 0 });
+    text::pad_five(
+        (t % 100000) as u32,
+        &mut Output {
+            bytes: &mut bytes,
+            at: 0,
+        },
+    );
     little_endian::u64_at(&bytes, 0)
 }
 
@@ -321,6 +345,12 @@ pub fn exports_pad_six(t: u64) -> u64
     ensures { Packed (digits 6 (t % 1000000)) 6 result }
 {
     let mut bytes = [0u8; 8];
-    text::pad_six((t % 1000000) as u32, &mut Output { bytes: &mut bytes, at: 0 });
+    text::pad_six(
+        (t % 1000000) as u32,
+        &mut Output {
+            bytes: &mut bytes,
+            at: 0,
+        },
+    );
     little_endian::u64_at(&bytes, 0)
 }

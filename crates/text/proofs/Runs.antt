@@ -1,15 +1,15 @@
 -- Runs of stored bytes: one behind the other is one run, and a run from the start of an output with room is the text printed. Assumes nothing.
 use mathlib.Core.Path.{◌≡◌, refl, sym, ap, ◌∙◌}
 use mathlib.Core.List.{List, [], ◌∷◌, ◌++◌, append_assoc}
-use Prim.Native.Nat.{ℕ, suc, ◌+◌, ◌-◌, ◌≤◌, ◌<◌}
+use Prim.Native.Nat.{ℕ, suc, ◌+◌, ◌≤◌, ◌<◌}
 use native.Mathlib.Omega.{arith}
 use native.Mathlib.Nat.{zero-add, add-zero, add-suc, suc-add}
-use lib.ListN.{length, set, take, drop, length-append}
+use lib.ListN.{length, set, length-append}
 use lib.Seq.{sets, sets-eq, drop-drop, length-sets}
 use borrow.Author.Tests.{le-leb, lt-leb}
 use borrow.Rule.Slice.PartMut.{put_mid}
 use Rattle.std.proofs.Common.{Some, None}
-use Rattle.text.specs.Inner.{Puts, Appended, Prints}
+use Rattle.text.specs.Inner.{Appended, Prints}
 use Rattle.text.specs.declared.output.Output.{Output}
 
 -- stores in a row behind stores in a row

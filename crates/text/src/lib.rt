@@ -10,7 +10,7 @@ mod fields;
 mod output;
 
 pub use fields::DateFields;
-pub use output::{last_digits, Output};
+pub use output::{Output, last_digits};
 
 // ---- digits
 
@@ -169,7 +169,10 @@ pub fn iso_string(f: DateFields, output: &mut [u8]) -> Option<usize>
     if output.len() < length {
         return None;
     }
-    let mut text = Output { bytes: output, at: 0 };
+    let mut text = Output {
+        bytes: output,
+        at: 0,
+    };
     put_iso_year(f.year, &mut text);
     put_iso_date(f, &mut text);
     put_iso_time(f, &mut text);
@@ -300,7 +303,10 @@ pub fn utc_string(f: DateFields, output: &mut [u8]) -> Option<usize>
     if output.len() < length {
         return None;
     }
-    let mut text = Output { bytes: output, at: 0 };
+    let mut text = Output {
+        bytes: output,
+        at: 0,
+    };
     put_utc_head(f, &mut text);
     put_year_and_time(f, &mut text);
     Some(length)
@@ -315,7 +321,10 @@ pub fn local_string(f: DateFields, offset: i32, output: &mut [u8]) -> Option<usi
     if output.len() < length {
         return None;
     }
-    let mut text = Output { bytes: output, at: 0 };
+    let mut text = Output {
+        bytes: output,
+        at: 0,
+    };
     put_local_head(f, &mut text);
     put_year_and_time(f, &mut text);
     time_zone_string(offset, &mut text);

@@ -22,8 +22,8 @@ put_iso-requires c =
     let time = c.put_signed.ensures in
     (c.requires.0, omega (arith, time.next, time.size, signed-length (to_z w64 (of_z w64 c.as_i64.result)), c.put.ensures.next, c.put.ensures.size, c.put_all.ensures.next, c.put_all.ensures.size, c.requires.1))
 
-pub put-requires-2 : goal.put-requires-2
-put-requires-2 c =
+pub end_line-requires : goal.end_line-requires
+end_line-requires c =
     let time = c.put_signed.ensures in
     let iso = c.put_iso.ensures in
     omega (arith, iso.next, iso.size, iso-length c.args.bits, time.next, time.size, signed-length (to_z w64 (of_z w64 c.as_i64.result)), c.put.ensures.next, c.put.ensures.size, c.put_all.ensures.next, c.put_all.ensures.size, c.requires.1)
@@ -32,4 +32,4 @@ pub returns : goal.returns
 unfolding accepted_line
 returns c =
     let time = appended_own c.put_signed.ensures (ap signed_decimal (kept {w = w64} {z = c.as_i64.result} (record { sfits = c.as_i64.type_inv }) ∙ c.as_i64.ensures ∙ ap (to_signed 63) c.of_bits.ensures ∙ cast-time c.requires.0)) in
-    appended_own (appended_then (appended_then (appended_then (appended_then c.put_all.ensures time) c.put.ensures) c.put_iso.ensures) c.put-2.ensures) refl
+    appended_own (appended_then (appended_then (appended_then (appended_then c.put_all.ensures time) c.put.ensures) c.put_iso.ensures) c.end_line.ensures) refl

@@ -6,11 +6,11 @@ use Rattle.text.proofs.Runs.{appended_own, appended_then}
 use Rattle.datelines.proofs.Decimal.{within}
 use Rattle.datelines.proofs.put_refused.Goals as goal
 
-pub put-requires : goal.put-requires
-put-requires c =
+pub end_line-requires : goal.end_line-requires
+end_line-requires c =
     let p = c.put_decimal.ensures in
     omega (arith, p.next, p.size, within 20 c.args.number, c.requires)
 
 pub returns : goal.returns
 unfolding refused_line
-returns c = appended_own (appended_then c.put_decimal.ensures c.put.ensures) refl
+returns c = appended_own (appended_then c.put_decimal.ensures c.end_line.ensures) refl
