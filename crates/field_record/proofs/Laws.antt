@@ -7,13 +7,13 @@ use Prim.Native.Nat.{ℕ, ◌+◌, ◌*◌, ◌/◌, ◌%◌, ◌^◌, ◌≤◌
 use native.Mathlib.Nat.{mod-lt, div-add-mod', mod-one, pow-suc, div-div-eq-div-mul, le-div_iff_mul-le, div-lt_iff_lt-mul, one-mul}
 use native.Mathlib.Numerals.{add-one}
 use native.Mathlib.Omega.{arith}
-use borrow.Author.Tests.{eqb-true, eqb-false, eq-eqb, ne_eqb, le-leb, lt-leb}
+use borrow.Author.Tests.{eqb-true, eqb-false, le-leb, lt-leb}
 use lib.Count.{ones, ones_step, ones_cat, ones-le}
 use lib.Dec.{eqb, leb}
 use lib.Pow.{pow_pos}
 use lib.ListN.{length}
 use lib.Ieee.{Float}
-use Rattle.std.specs.Prelude.{Option, Some, None, unwrap_or}
+use Rattle.std.specs.Prelude.{Some, None, unwrap_or}
 use Rattle.field_record.specs.Inner.{given}
 use Rattle.field_record.specs.FieldRecord.{map_of, stands, has_length, has_other_bit, place_of, field_at, field_or}
 

@@ -1,5 +1,5 @@
 -- `field_record::Arguments::next` meets its contract: a field that stands is read at its place, and the next one's place follows it. Assumes nothing.
-use mathlib.Core.Path.{◌≡◌, sym, ap, ◌∙◌}
+use mathlib.Core.Path.{sym, ap, ◌∙◌}
 use native.Mathlib.Omega.{arith}
 use lib.Ieee.{binary64, of_bits}
 use Rattle.std.specs.Prelude.{Some}
