@@ -14,7 +14,7 @@ use Rattle.text.proofs.Runs.{sets-join, appended_none, appended_own, appended_th
 use Rattle.datelines.specs.declared.open_line.OpenLine.{OpenLine}
 use Rattle.datelines.specs.Fed.{begun, Feeds}
 use Rattle.datelines.specs.Lines.{line_of, last_of, behind, prints, emitted, left, lent, Appends}
-use Rattle.datelines.proofs.Streams.{left-snoc, lent-snoc, emitted-snoc, prints-length, last_none, last_some, last-length}
+use Rattle.datelines.proofs.Streams.{left-snoc, lent-snoc, emitted-snoc, prints-length, last-length}
 
 -- ---- a newline ends the line
 pub ends : (line : List ℕ) (b : ℕ) → b ≡ 10 → line_of line ≡ prints line b
@@ -35,14 +35,6 @@ byte-room line b p = omega (arith, p.next, prints-length line b)
 -- and so has what the end of the input prints
 pub last-room : (line : List ℕ) {out last : Output} → Appends out (last_of line) last → last.at ≤ out.at + 64
 last-room line p = omega (arith, p.next, last-length line)
-
--- ---- the end of the input
-pub no-line : (line : OpenLine) → (0 < line.kept → ⊥) → [] ≡ last_of (begun line)
-no-line line none = sym (last_none (begun line) (length-take-le line.kept line.bytes (omega arith) ∙ (let e : line.kept ≡ 0 = omega arith in e)))
-
-pub some-line : (line : OpenLine) → 0 < line.kept → length line.bytes ≡ 33 → line_of (begun line) ≡ last_of (begun line)
-some-line line some long =
-    last_some (begun line) (λ e. let k : length (begun line) ≡ line.kept = length-take-le line.kept line.bytes (omega (arith, line.few)) in absurd (omega arith))
 
 -- ---- another byte is kept, or not
 module _ (line : List ℕ) (kept b : ℕ) (other : b ≡ 10 → ⊥) (long : length line ≡ 33) (few : kept ≤ 33) where

@@ -3,7 +3,7 @@
 use mathlib.Core.Path.{◌≡◌, sym, ap, ◌∙◌}
 use mathlib.Core.Bool.{Bool, true, false, cond}
 use mathlib.Core.List.{List, [], ◌∷◌, ◌++◌}
-use Prim.Native.Nat.{ℕ, zero, suc, ◌/◌, ◌%◌, ◌^◌, ◌≤◌, ◌<◌}
+use Prim.Native.Nat.{ℕ, zero, suc, ◌+◌, ◌/◌, ◌%◌, ◌^◌, ◌≤◌, ◌<◌}
 use native.Mathlib.Nat.{pow-suc, div-lt_iff_lt-mul}
 use native.Mathlib.Omega.{arith}
 use borrow.Author.Tests.{lt-ltb, le-ltb}
@@ -11,7 +11,8 @@ use lib.Dec.{ltb, lit<}
 use lib.IntN.{ℤ, pos, negsuc}
 use lib.ListN.{length, length-append}
 use Rattle.ecma262.specs.Digits.{digit}
-use Rattle.datelines.specs.Lines.{decimal_within, decimal, signed_decimal}
+use Rattle.text.specs.declared.output.Output.{Output}
+use Rattle.datelines.specs.Lines.{decimal_within, decimal, signed_decimal, Appends}
 
 pub room : (k n : ℕ) → n < 10 ^ suc k → decimal_within (suc (suc k)) n ≡ decimal_within (suc k) n
 unfolding decimal_within
@@ -53,3 +54,7 @@ pub signed-length : (z : ℤ) → length (signed_decimal z) ≤ 21
 unfolding signed_decimal
 signed-length (pos n) = omega (arith, within 20 n)
 signed-length (negsuc n) = omega (arith, within 20 (suc n))
+
+-- what room a number takes
+pub decimal-room : (k : ℕ) {out last : Output} → Appends out (decimal k) last → last.at ≤ out.at + 20
+decimal-room k p = omega (arith, p.next, within 20 k)

@@ -3,7 +3,7 @@
 #![tactic(auto)]
 
 ghost use Rattle.text.specs.Inner.{HasRoom, Appended};
-ghost use Rattle.datelines.specs.Lines.{decimal, signed_decimal, iso_of_bits, accepted_line, refused_line, newline, line_of, IsTimeBits, Appends};
+ghost use Rattle.datelines.specs.Lines.{decimal, signed_decimal, iso_of_bits, accepted_line, refused_line, newline, line_of, last_of, IsTimeBits, Appends};
 
 mod open_line;
 
@@ -81,4 +81,16 @@ pub fn put_line(text: &[u8], output: &mut Output)
         Ok(bits) => put_accepted(bits, output),
         Err(f) => put_refused(f.into(), output),
     }
+}
+
+// The input has ended: the answer to the line that is open then, if there is one.
+#[tactic(auto, using(crate::proofs::Streams::last_none, crate::proofs::Streams::last_some))]
+pub fn finish(line: &[u8], output: &mut Output)
+    requires { HasRoom output.old 64 }
+    ensures { Appends output.old (last_of line.now) output.new }
+{
+    if line.len() == 0 {
+        return;
+    }
+    put_line(line, output);
 }

@@ -1,6 +1,6 @@
 ghost use Rattle.std.specs.Prelude.{◌≤◌};
 
-use crate::put_line;
+use crate::{finish, put_line};
 use text::Output;
 
 // What ends a line.
@@ -18,7 +18,7 @@ pub struct OpenLine {
 }
 
 impl OpenLine {
-    ghost use Rattle.std.specs.Prelude.{◌*◌, ◌<◌, ◌↔◌, IsTrue, length};
+    ghost use Rattle.std.specs.Prelude.{◌*◌, length};
     ghost use Rattle.std.proofs.lemmas.List.Edits.{sets};
     ghost use Rattle.text.specs.Inner.{HasRoom};
     ghost use Rattle.datelines.specs.Lines.{behind, prints, emitted, left, lent, last_of, Appends};
@@ -48,20 +48,11 @@ impl OpenLine {
         }
     }
 
-    // Whether a byte of the line has come.
-    fn is_open(&self) -> bool
-        ensures { IsTrue result ↔ (0 < self.now.kept) }
-    {
-        self.kept > 0
-    }
-
-    // The input has ended: the answer to the open line, if there is one.
+    // The input has ended.
     pub fn finish(&self, output: &mut Output)
         requires { HasRoom output.old 64 }
         ensures { Appends output.old (last_of (begun self.now)) output.new }
     {
-        if self.is_open() {
-            put_line(&self.bytes[..self.kept], output);
-        }
+        finish(&self.bytes[..self.kept], output);
     }
 }
