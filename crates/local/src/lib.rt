@@ -7,9 +7,8 @@ ghost use Rattle.std.specs.Prelude.{◌≡◌, ◌≤◌, nat_abs};
 ghost use Rattle.zone.specs.Zone.{records};
 ghost use Rattle.local.specs.Local.{asked_second, asked_second_f, offset_seconds_f, shift_f, local_time_f, utc_f};
 
+use calendar::MS_PER_SECOND;
 use zone::ZoneList;
-
-const MS_PER_SECOND: f64 = 1_000.0;
 
 // The second of a whole time, rounded down: counted as calendar does, from 37,930,477,996,800 seconds back, no time is negative, and an
 // unsigned quotient rounds down.

@@ -4,6 +4,7 @@
 #![tactic(auto)]
 
 ghost use Rattle.std.specs.Prelude.{◌≡◌, ◌≤◌, drop, MatchOption, MatchResult};
+ghost use Rattle.ecma262.specs.Format.{time_fields};
 ghost use Rattle.parser.specs.Reading.{digits_after, byte, within, signed_year, after, read_year, read_day, read_date, read_decimals, read_second, read_time, read_offset_minute, read_offset, read_zone, after_date, after_zone, time_allowed, time_part, read};
 ghost use Rattle.parser.specs.Inner.{Reads, Ends, Next, IsDigit, NoDigit, block_of, four_digits, as_is, optional, hour_allowed, out, as_year, as_date, as_time, as_zone, as_reading};
 
@@ -53,6 +54,51 @@ pub enum Time {
         second: u32,
         ms: u32,
     },
+}
+
+// The fields of a time, an absent one being 0.
+#[derive(Clone, Copy)]
+pub struct TimeFields {
+    pub hour: u32,
+    pub minute: u32,
+    pub second: u32,
+    pub ms: u32,
+}
+
+impl Time {
+    pub fn fields(self) -> TimeFields
+        ensures { (result.hour ≡ (time_fields (as_time self)).hour) × (result.minute ≡ (time_fields (as_time self)).minute) × (result.second ≡ (time_fields (as_time self)).second) × (result.ms ≡ (time_fields (as_time self)).ms) }
+    {
+        match self {
+            Time::ToMinute { hour, minute } => TimeFields {
+                hour,
+                minute,
+                second: 0,
+                ms: 0,
+            },
+            Time::ToSecond {
+                hour,
+                minute,
+                second,
+            } => TimeFields {
+                hour,
+                minute,
+                second,
+                ms: 0,
+            },
+            Time::ToDecimals {
+                hour,
+                minute,
+                second,
+                ms,
+            } => TimeFields {
+                hour,
+                minute,
+                second,
+                ms,
+            },
+        }
+    }
 }
 
 // No zone, `Z`, a sign and an hour, or a sign, an hour and a minute.
@@ -355,20 +401,8 @@ fn hour_allowed(hour: u32, minute: u32, second: u32, ms: u32) -> bool
 fn time_allowed(t: Time) -> bool
     ensures { result ≡ time_allowed (as_time t) }
 {
-    match t {
-        Time::ToMinute { hour, minute } => hour_allowed(hour, minute, 0, 0),
-        Time::ToSecond {
-            hour,
-            minute,
-            second,
-        } => hour_allowed(hour, minute, second, 0),
-        Time::ToDecimals {
-            hour,
-            minute,
-            second,
-            ms,
-        } => hour_allowed(hour, minute, second, ms),
-    }
+    let f = t.fields();
+    hour_allowed(f.hour, f.minute, f.second, f.ms)
 }
 
 // After `T`: the time, the zone and the end.

@@ -59,20 +59,8 @@ fn clock_count(t: Time) -> u32
     requires { TimeBounds (as_time t) }
     ensures { (result ≡ 3_600_000 * (time_fields (as_time t)).hour + 60_000 * (time_fields (as_time t)).minute + 1_000 * (time_fields (as_time t)).second + (time_fields (as_time t)).ms) × (result < 100_000_000) }
 {
-    match t {
-        Time::ToMinute { hour, minute } => clock(hour, minute, 0, 0),
-        Time::ToSecond {
-            hour,
-            minute,
-            second,
-        } => clock(hour, minute, second, 0),
-        Time::ToDecimals {
-            hour,
-            minute,
-            second,
-            ms,
-        } => clock(hour, minute, second, ms),
-    }
+    let f = t.fields();
+    clock(f.hour, f.minute, f.second, f.ms)
 }
 
 // A form's fields, an absent one at its default: the day of the month as written, and the milliseconds of the day.
