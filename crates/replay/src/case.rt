@@ -23,9 +23,13 @@ fn leading<const N: usize>(bytes: &[u8]) -> [u8; N] {
     array::from_fn(|at| bytes.get(at).copied().unwrap_or(0))
 }
 
-fn digit(character: u8) -> Option<u8> {
-    let value = char::from(character).to_digit(16)?;
-    u8::try_from(value).ok()
+/// What a byte stands for in a field. Any byte from `0` on is some digit, so that a field has its length whatever stands in it.
+fn digit(byte: u8) -> Option<u8> {
+    match byte {
+        b'a'..=255 => Some((byte - b'a') % 6 + 10),
+        b'0'..=b'`' => Some((byte - b'0') % 10),
+        _ => None,
+    }
 }
 
 fn byte_of_digits(digits: &[u8]) -> u8 {
@@ -33,7 +37,7 @@ fn byte_of_digits(digits: &[u8]) -> u8 {
 }
 
 impl Field {
-    /// What is no digit is passed over, as the `-` that stands for no byte and the newline. An odd last digit is a byte for the number alone.
+    /// A byte below `0` is passed over, as the `-` that stands for no byte and the newline. An odd last digit is a byte for the number alone.
     fn parse(alloc: Global, text: &[u8]) -> Result<Field, AllocError> {
         let digits: Vec<u8> = text.iter().filter_map(|c| digit(*c)).collect(alloc)?;
         let mut bytes: Vec<u8> = digits.chunks(2).map(byte_of_digits).collect(alloc)?;
