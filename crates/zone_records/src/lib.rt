@@ -2,7 +2,7 @@
 // same definitions.
 #![tactic(auto)]
 
-ghost use Rattle.std.specs.Prelude.{◌≡◌, ◌≤◌, leb, nat_abs, length, take};
+ghost use Rattle.std.specs.Prelude.{◌≡◌, leb, nat_abs};
 ghost use Rattle.std.specs.List.{list_all, IsAllAdjacentAnswer};
 ghost use Rattle.std.specs.Int.Signed.{lt_z};
 ghost use Rattle.zone.specs.Zone.{IsZoneList, is_zone_list, offset_at};
@@ -43,19 +43,4 @@ pub fn lookup(zone: &[ZoneRecord], second: i64) -> i32
 {
     let after = zone.partition_point(|record| record.second <= second);
     zone[after.saturating_sub(1)].offset
-}
-
-// The first `n` records of a slice, judged and looked up in.
-pub fn accept_first(all: &[ZoneRecord], n: usize) -> bool
-    requires { n ≤ length all.now }
-    ensures { result ≡ is_zone_list (as_records (take n all.now)) }
-{
-    accept(&all[..n])
-}
-
-pub fn lookup_first(all: &[ZoneRecord], n: usize, second: i64) -> i32
-    requires { (n ≤ length all.now) × IsZoneList (as_records (take n all.now)) }
-    ensures { result ≡ offset_at (as_records (take n all.now)) second }
-{
-    lookup(&all[..n], second)
 }
