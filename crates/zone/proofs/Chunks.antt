@@ -40,23 +40,23 @@ record_in bytes i =
     λ j. record { second = second j; offset = offset j }
 
 -- ---- the lookup
-module _ (bytes : List ℕ) (a : Accepted bytes) (t : ℤ) (chunks : List (List ℕ)) (are : chunks ≡ first_chunks 12 (length bytes / 12) bytes) (many : length chunks ≡ length bytes / 12) where
-  all : length chunks ≡ length (records bytes)
-  all = many ∙ sym (records-length bytes)
+module _ (bytes : List ℕ) (a : Accepted bytes) (t : ℤ) (chunks : List (List ℕ)) (cut : chunks ≡ first_chunks 12 (length bytes / 12) bytes) (many : length chunks ≡ length bytes / 12) where
+  as-many : length chunks ≡ length (records bytes)
+  as-many = many ∙ sym (records-length bytes)
 
   abbrev begun : List ℕ → Bool
   begun chunk = le_z (record_at chunk 0).second t
 
   second_in : (i : ℕ) → i < length chunks → second_of (records bytes) i ≡ (record_at (get_or chunks i []) 0).second
   second_in i l =
-      let chunk : get_or chunks i [] ≡ take 12 (drop (12 * i) bytes) = ap (λ (c : List (List ℕ)). get_or c i []) are ∙ chunk-at (length bytes / 12) bytes i (omega (arith, l, many)) in
+      let chunk : get_or chunks i [] ≡ take 12 (drop (12 * i) bytes) = ap (λ (c : List (List ℕ)). get_or c i []) cut ∙ chunk-at (length bytes / 12) bytes i (omega (arith, l, many)) in
       second_is bytes i (omega (arith, l, many)) ∙ sym (ap (λ (c : List ℕ). (record_at c 0).second) chunk ∙ ap (λ (r : Record). r.second) (record_in bytes i))
 
   pub chunks_partitioned : IsPartitionedBy begun chunks
-  chunks_partitioned = partitioned (λ chunk. (record_at chunk 0).second) chunks [] (second_of (records bytes)) second_in t (λ i j b l. a.rule.rising i j b (omega (arith, l, all)))
+  chunks_partitioned = partitioned (λ chunk. (record_at chunk 0).second) chunks [] (second_of (records bytes)) second_in t (λ i j b l. a.rule.rising i j b (omega (arith, l, as-many)))
 
   pub decided : (k : ℕ) → k ≤ length chunks → IsPartitionPoint (λ chunk. begun chunk ≡ true) (λ chunk. begun chunk ≡ false) chunks k → (record_at bytes (k - 1)).offset ≡ offset_at (records bytes) t
   decided k h point =
-      let d = deciding_before (λ chunk. (record_at chunk 0).second) chunks [] (second_of (records bytes)) second_in t (omega (arith, a.rule.some, all)) k h point in
+      let d = deciding_before (λ chunk. (record_at chunk 0).second) chunks [] (second_of (records bytes)) second_in t (omega (arith, a.rule.some, as-many)) k h point in
       sym (offset-is bytes (k - 1) (omega (arith, d.within, many)))
-      ∙ sym (offset-decided (records bytes) t (k - 1) (subst (λ (n : ℕ). IsDeciding (second_of (records bytes)) n t (k - 1)) all d))
+      ∙ sym (offset-decided (records bytes) t (k - 1) (subst (λ (n : ℕ). IsDeciding (second_of (records bytes)) n t (k - 1)) as-many d))

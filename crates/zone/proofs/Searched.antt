@@ -1,5 +1,5 @@
--- What the library's search answers of a list in whose order the seconds rise: the record before the partition point decides, or the first. Over
--- any type of record. Assumes nothing.
+-- What the library's search answers of a list whose seconds rise: the record before the partition point decides, or the first. Over any type of
+-- element that a second is read of. Assumes nothing.
 use mathlib.Core.Path.{◌≡◌, refl, sym, subst}
 use mathlib.Core.Bool.{true, false}
 use mathlib.Core.List.{List}
@@ -18,7 +18,7 @@ use Rattle.zone.specs.Zone.{IsDeciding}
 use Rattle.zone.specs.Inner.{Rising}
 use Rattle.zone.proofs.Rule.{is_true}
 
--- `second` of each element, which are s 0, s 1 and so on
+-- s 0, s 1 and so on are the seconds of the elements
 module _ {X : Type 0} (second : X → ℤ) (list : List X) (none : X) (s : ℕ → ℤ) (same : (i : ℕ) → i < length list → s i ≡ second (get_or list i none)) (t : ℤ) where
   pub partitioned : Rising s (length list) → IsPartitionedBy (λ x. le_z (second x) t) list
   partitioned up i j d a l e = ⊎_elim (λ (here : i ≡ j). subst (λ (k : ℕ). le_z (second (get_or list k d)) t ≡ true) (sym here) e) earlier (eq-or-lt_of_le a)

@@ -1,5 +1,7 @@
 -- `ZoneList::lookup` meets its contract: the library's partition point is the first record after the second. Assumes nothing.
-use mathlib.Core.Path.{ap, ◌∙◌}
+use mathlib.Core.Path.{◌≡◌, ap, ◌∙◌}
+use Prim.Native.Nat.{◌-◌}
+use native.Mathlib.Omega.{arith}
 use lib.Signed.{le_z}
 use mir.Syntax.{w32}
 use Rattle.std.proofs.Common.{rules}
@@ -17,5 +19,5 @@ returns c =
     let after = c.partition_point-after in
     let parted = chunks_partitioned list.bytes.now list.accepted t _ chunks.ensures.front chunks.ensures.front_len in
     let point = IsPartitionPoint-from_clause (λ chunk. le_z (record_at chunk 0).second t) _ _ after.ensures.partitioned parted (λ a r q k. search rules) in
-    kept {w = w32} (record { sfits = c.offset_at.type_inv }) ∙ c.offset_at.ensures ∙ ap (λ k. (record_at list.bytes.now k).offset) c.saturating_sub.ensures
+    kept {w = w32} (record { sfits = c.offset_at.type_inv }) ∙ c.offset_at.ensures ∙ ap (λ k. (record_at list.bytes.now k).offset) (let before : _ ≡ after.result - 1 = omega arith in before)
     ∙ decided list.bytes.now list.accepted t _ chunks.ensures.front chunks.ensures.front_len _ after.ensures.bound point
