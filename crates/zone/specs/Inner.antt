@@ -1,13 +1,5 @@
--- What the lookup's inner functions keep, for their contracts, and a name for the laws; no outcome cites them. Definitions only. Assumes nothing.
-use Rattle.std.specs.Prelude.{◌≡◌, List, ◌⊎◌, ℕ, ◌/◌, ◌<◌, ◌≤◌, ℤ, length, ◌≤ℤ◌, ◌<ℤ◌}
-use Rattle.zone.specs.Zone.{records, second_of}
-
--- So far as halving has found it: the record that decides at t lies from `low` to before `high`.
-pub record Narrowed (bytes : List ℕ) (t : ℤ) (low high : ℕ) : Type 0 where
-  pub apart : low < high
-  pub within : high ≤ length bytes / 12
-  pub started : (low ≡ 0) ⊎ (second_of (records bytes) low ≤ℤ t)
-  pub after : (j : ℕ) → high ≤ j → j < length bytes / 12 → t <ℤ second_of (records bytes) j
+-- A name for the laws; no outcome cites it. Definitions only. Assumes nothing.
+use Rattle.std.specs.Prelude.{ℕ, ◌<◌, ℤ, ◌<ℤ◌}
 
 -- n seconds are strictly rising
 abbrev pub Rising : (ℕ → ℤ) → ℕ → Type 0
