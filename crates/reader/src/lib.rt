@@ -210,11 +210,7 @@ fn refusal_of(f: Fault) -> Refusal
 pub fn read(zone: &[u8], text: &[u8]) -> Result<u64, Refusal>
     ensures { result ≡ read_outcome zone.now text.now }
 {
-    let Some(list) = ZoneList::accept(zone) else {
-        return Err(Refusal::ZoneList);
-    };
-    match text_reader::parse_text(text) {
-        Err(f) => Err(refusal_of(f)),
-        Ok(form) => answer_at(instant_of(list, form)),
-    }
+    let list = ZoneList::accept(zone).ok_or(Refusal::ZoneList)?;
+    let form = text_reader::parse_text(text).map_err(refusal_of)?;
+    answer_at(instant_of(list, form))
 }
