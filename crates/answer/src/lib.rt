@@ -5,6 +5,9 @@
 ghost use Rattle.std.specs.Prelude.{◌≡◌};
 ghost use Rattle.answer.specs.Answer.{refusal_number, refused_answer, answer_of, answer_of_time};
 
+// Every NaN handed out has these bits.
+pub const NAN_VALUE: u64 = 0x7FF8_0000_0000_0000;
+
 // Why a call is turned back: the faults of document 01's table, in its order.
 #[derive(Clone, Copy, Debug, PartialEq, Eq)]
 pub enum Refusal {
@@ -75,7 +78,7 @@ impl From<Refusal> for Answer {
     fn from(f: Refusal) -> Answer {
         Answer {
             number: u32::from(f),
-            value: 0x7FF8_0000_0000_0000,
+            value: NAN_VALUE,
             length: 0,
         }
     }

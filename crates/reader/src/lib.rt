@@ -109,10 +109,12 @@ impl Fields {
     }
 
     // MakeDate of the day and the time.
-    fn time(self) -> i64
-        ensures { (result ≡ make_date (make_day self.year (pos self.month) (pos self.day)) (pos self.time)) × (nat_abs result ≤ 37_000_000_000_000_000) }
+    fn time(self) -> FieldsTime
+        ensures { result.ms ≡ make_date (make_day self.year (pos self.month) (pos self.day)) (pos self.time) }
     {
-        self.day_number() * 86_400_000 + i64::from(self.time)
+        FieldsTime {
+            ms: self.day_number() * 86_400_000 + i64::from(self.time),
+        }
     }
 }
 
@@ -127,46 +129,59 @@ fn zone_of(form: Form) -> Zone
     }
 }
 
-// The time t of the fields, less an offset of that sign, hour and minute: `+01:00` is ahead, so its instant is earlier.
-fn less_offset(t: i64, negative: bool, hour: u32, minute: u32) -> i64
-    requires { (nat_abs t ≤ 37_000_000_000_000_000) × (hour ≤ 23) × (minute ≤ 59) }
-    ensures { result ≡ less_written negative hour minute t }
-{
-    let ms = i64::from(clock(hour, minute, 0, 0));
-    if negative { t + ms } else { t - ms }
+// The time of the fields, which an offset can be taken from in 64 bits.
+#[derive(Clone, Copy)]
+struct FieldsTime {
+    ms: i64,
+    ghost small: { nat_abs ms ≤ 37_000_000_000_000_000 },
 }
 
-// The time t of the fields, less the offset that the list gives at it, read as an instant: `utc_t`.
-fn less_local(zone: ZoneList, t: i64) -> i64
-    requires { nat_abs t ≤ 37_000_000_000_000_000 }
-    ensures { result ≡ utc_time (records zone.entry.bytes.now) t }
-{
-    t - zone.lookup(local::second_of(t)) as i64 * 1_000
-}
+impl FieldsTime {
+    // Less an offset of that sign, hour and minute: `+01:00` is ahead, so its instant is earlier.
+    fn less_offset(self, negative: bool, hour: u32, minute: u32) -> i64
+        requires { (hour ≤ 23) × (minute ≤ 59) }
+        ensures { result ≡ less_written negative hour minute self.ms }
+    {
+        let offset = i64::from(clock(hour, minute, 0, 0));
+        if negative {
+            self.ms + offset
+        } else {
+            self.ms - offset
+        }
+    }
 
-// The time t of the fields, less the offset of a zone as it is written.
-fn less_zone(zone: ZoneList, t: i64, z: Zone) -> i64
-    requires { (nat_abs t ≤ 37_000_000_000_000_000) × ZoneBounds (as_zone z) }
-    ensures { result ≡ less_offset (records zone.entry.bytes.now) (as_zone z) t }
-{
-    match z {
-        Zone::Absent => less_local(zone, t),
-        Zone::Zulu => t,
-        Zone::ToHour { negative, hour } => less_offset(t, negative, hour, 0),
-        Zone::ToMinute {
-            negative,
-            hour,
-            minute,
-        } => less_offset(t, negative, hour, minute),
+    // Less the offset that the list gives at it, read as an instant: `utc_t`.
+    fn less_local(self, zone: ZoneList) -> i64
+        ensures { result ≡ utc_time (records zone.entry.bytes.now) self.ms }
+    {
+        self.ms - zone.lookup(local::second_of(self.ms)) as i64 * 1_000
+    }
+
+    // Less the offset of a zone as it is written.
+    fn less_zone(self, zone: ZoneList, z: Zone) -> i64
+        requires { ZoneBounds (as_zone z) }
+        ensures { result ≡ less_offset (records zone.entry.bytes.now) (as_zone z) self.ms }
+    {
+        match z {
+            Zone::Absent => self.less_local(zone),
+            Zone::Zulu => self.ms,
+            Zone::ToHour { negative, hour } => self.less_offset(negative, hour, 0),
+            Zone::ToMinute {
+                negative,
+                hour,
+                minute,
+            } => self.less_offset(negative, hour, minute),
+        }
     }
 }
 
 // The instant of a form.
+#[tactic(auto, unfolding(crate::specs::Denotes::instant_of))]
 fn instant_of(zone: ZoneList, form: Form) -> i64
     requires { Bounds (as_form form) }
     ensures { result ≡ instant_of (records zone.entry.bytes.now) (as_form form) }
 {
-    less_zone(zone, Fields::of(form).time(), zone_of(form))
+    Fields::of(form).time().less_zone(zone, zone_of(form))
 }
 
 // The answer for an instant: the range is 8,640,000,000,000,000 either way.
@@ -195,11 +210,7 @@ fn refusal_of(f: Fault) -> Refusal
 pub fn read(zone: &[u8], text: &[u8]) -> Result<u64, Refusal>
     ensures { result ≡ read_outcome zone.now text.now }
 {
-    let Some(list) = ZoneList::accept(zone) else {
-        return Err(Refusal::ZoneList);
-    };
-    match text_reader::parse_text(text) {
-        Err(f) => Err(refusal_of(f)),
-        Ok(form) => answer_at(instant_of(list, form)),
-    }
+    let list = ZoneList::accept(zone).ok_or(Refusal::ZoneList)?;
+    let form = text_reader::parse_text(text).map_err(refusal_of)?;
+    answer_at(instant_of(list, form))
 }

@@ -13,7 +13,7 @@ ghost use Rattle.timevalue.specs.TimeValue.{IsTime};
 ghost use Rattle.zone.specs.Zone.{records};
 ghost use Rattle.writer.specs.Writer.{iso_outcome, utc_outcome, to_date_string, local_outcome};
 
-use answer::{Refusal, Text};
+use answer::{NAN_VALUE, Refusal, Text};
 use text::DateFields;
 use timevalue::TimeValue;
 use zone::ZoneList;
@@ -81,7 +81,7 @@ fn write_invalid(output: &mut [u8]) -> Result<Text, Refusal>
     ensures { Leaves (written nan_value invalid_date output.old) result output.new }
 {
     let printed = text::invalid_date(output);
-    reply(0x7FF8_0000_0000_0000, printed)
+    reply(NAN_VALUE, printed)
 }
 
 // Date.prototype.toISOString
