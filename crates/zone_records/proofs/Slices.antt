@@ -1,24 +1,22 @@
 -- A slice of records read as the zone list's: what is read of the one is what the definitions say of the other. And what the library's calls
 -- answer of a slice, in the definitions' words: whether it keeps the rule, and which record decides. Assumes nothing.
-use mathlib.Core.Path.{◌≡◌, refl, sym, ap, subst, ◌∙◌}
+use mathlib.Core.Path.{◌≡◌, sym, ap, subst, ◌∙◌}
 use mathlib.Core.Bool.{Bool, true, false}
 use mathlib.Core.List.{List, [], ◌∷◌}
-use mathlib.Core.Logic.{◌⊎◌, inl, inr, ⊎_elim}
 use Prim.Native.Nat.{ℕ, zero, suc, ◌+◌, ◌-◌, ◌<◌, ◌≤◌}
-use native.Mathlib.Nat.{eq-or-lt_of_le}
 use native.Mathlib.Omega.{arith}
 use lib.Dec.{T, leb}
 use lib.IntN.{ℤ, pos, nat_abs}
 use lib.ListN.{length, get_or, length-map, get_or-map}
 use lib.Signed.{le_z, lt_z, ◌≤ℤ◌, ◌<ℤ◌}
 use mir.Facts.{and_yes, yes_and, leb_yes, yes_leb}
-use Rattle.std.proofs.lemmas.List.{get_or_default}
 use Rattle.std.specs.List.{list_all, AllAdjacentBelow, IsAllAdjacentAnswer}
 use Rattle.std.specs.List.Sorted.{IsPartitionedBy, IsPartitionPoint}
 use Rattle.integers.proofs.Int.{ints}
-use Rattle.integers.proofs.Machine.{true-T, le-true, le-false, lt-true, lt-false}
-use Rattle.zone.specs.Zone.{Record, second_of, offset_of, IsZoneList, is_zone_list, offset_at}
+use Rattle.integers.proofs.Machine.{true-T, lt-true, lt-false}
+use Rattle.zone.specs.Zone.{Record, second_of, offset_of, IsDeciding, IsZoneList, is_zone_list, offset_at}
 use Rattle.zone.proofs.Offset.{offset-decided}
+use Rattle.zone.proofs.Searched.{partitioned as rising_partitioned, deciding_before}
 use Rattle.zone.proofs.Rule.{is_true, is_false, rising-adjacent, is_zone_list-sound, is_zone_list-complete}
 use Rattle.zone_records.specs.declared.ZoneRecord.{ZoneRecord}
 use Rattle.zone_records.specs.Slice.{as_record, as_records}
@@ -86,31 +84,17 @@ module _ (list : List ZoneRecord) where
       let below : (get_or list (k + 1) none).second ≤ℤ (get_or list k none).second = lt-false (sym (down none)) in
       let no : ⊥ = omega (ints, above, below, second_is list k, second_is list (k + 1)) in no)
 
--- ---- the lookup
+-- ---- the lookup: zone's laws of the library's search, of records
 module _ (list : List ZoneRecord) (rule : IsZoneList (as_records list)) (t : ℤ) where
-  abbrev pub begun : ZoneRecord → Bool
-  begun z = le_z z.second t
-
-  pub partitioned : IsPartitionedBy begun list
-  partitioned i j d a l e = ⊎_elim (λ (same : i ≡ j). subst (λ (k : ℕ). begun (get_or list k d) ≡ true) (sym same) e) earlier (eq-or-lt_of_le a)
-    where
-      earlier : i < j → begun (get_or list i d) ≡ true
-      earlier b =
-          let up = rule.rising i j b (omega (arith, l, records-length list)) in
-          let last : (get_or list j none).second ≤ℤ t = le-true (subst (λ (z : ZoneRecord). begun z ≡ true) (get_or_default list j d none l) e) in
-          subst (λ (z : ZoneRecord). begun z ≡ true) (get_or_default list i none d (omega arith))
-          (is_true _ (let first : (get_or list i none).second ≤ℤ t = omega (ints, up, last, second_is list i, second_is list j) in first.le))
+  pub partitioned : IsPartitionedBy (λ (z : ZoneRecord). le_z z.second t) list
+  partitioned =
+      rising_partitioned (λ (z : ZoneRecord). z.second) list none (second_of (as_records list)) (λ i l. second_is list i) t
+      (λ i j a l. rule.rising i j a (omega (arith, l, records-length list)))
 
   -- the record before the first that is after t decides, or the first
-  pub decided : (k : ℕ) → k ≤ length list → IsPartitionPoint (λ z. begun z ≡ true) (λ z. begun z ≡ false) list k → (get_or list (k - 1) none).offset ≡ offset_at (as_records list) t
+  pub decided : (k : ℕ) → k ≤ length list → IsPartitionPoint (λ z. le_z z.second t ≡ true) (λ z. le_z z.second t ≡ false) list k
+      → (get_or list (k - 1) none).offset ≡ offset_at (as_records list) t
   decided k h point =
       sym (offset-is list (k - 1)) ∙ sym (offset-decided (as_records list) t (k - 1)
-      (record {
-        within = omega (arith, h, rule.some, records-length list);
-        started = started k point;
-        last = λ j a l. let past : t <ℤ (get_or list j none).second = le-false (point.1 j none (omega (arith, a)) (omega (arith, l, records-length list))) in omega (ints, past, second_is list j);
-      }))
-    where
-      started : (k : ℕ) → IsPartitionPoint (λ z. begun z ≡ true) (λ z. begun z ≡ false) list k → (k - 1 ≡ 0) ⊎ (second_of (as_records list) (k - 1) ≤ℤ t)
-      started zero point = inl refl
-      started (suc k) point = inr (let from : (get_or list (suc k - 1) none).second ≤ℤ t = le-true (point.0 (suc k - 1) none (omega arith) (omega arith)) in omega (ints, from, second_is list (suc k - 1)))
+      (subst (λ (n : ℕ). IsDeciding (second_of (as_records list)) n t (k - 1)) (sym (records-length list))
+      (deciding_before (λ (z : ZoneRecord). z.second) list none (second_of (as_records list)) (λ i l. second_is list i) t (omega (arith, rule.some, records-length list)) k h point)))
