@@ -2,7 +2,6 @@
 //! pair. README.md says where stdin and stdout come from: Rust's own answers.
 #![tactic(auto)]
 
-use anyhow::{Context, Result};
 use std::io::{BufRead, BufReader, BufWriter, Write};
 use std::{fmt, io};
 
@@ -41,25 +40,23 @@ impl fmt::Display for Answers {
     }
 }
 
-/// The value whose pattern the digits write.
-fn value(digits: &str) -> Option<f64> {
-    u64::from_str_radix(digits, 16).ok().map(float::of_bits)
+/// The value whose pattern the digits write; where they are no digits, that of the pattern 0.
+fn value(digits: &str) -> f64 {
+    float::of_bits(u64::from_str_radix(digits, 16).unwrap_or(0))
 }
 
 /// The two values of a line.
-fn pair(line: &str) -> Option<(f64, f64)> {
-    let (x, y) = line.split_once(' ')?;
-    Some((value(x)?, value(y)?))
+fn pair(line: &str) -> (f64, f64) {
+    let (x, y) = line.split_once(' ').unwrap_or((line, ""));
+    (value(x), value(y))
 }
 
-fn main(rt: HostRuntime) -> Result<()> {
+fn main(rt: HostRuntime) -> io::Result<()> {
     let alloc = rt.alloc();
     let mut writer = BufWriter::new(alloc, io::writer(&rt))?;
     for line in BufReader::new(alloc, rt.reader())?.lines(alloc) {
-        let line = line?;
-        let (x, y) = pair(&line).context(format_args!("no pair: {line:?}"))?;
+        let (x, y) = pair(&line?);
         writeln!(writer, "{}", Answers::at(x, y))?;
     }
-    writer.flush()?;
-    Ok(())
+    writer.flush()
 }

@@ -37,11 +37,12 @@ fn main(rt: HostRuntime) -> io::Result<()> {
     rt.stdin().read_to_end(&mut input)?;
     let mut rest = input.as_slice();
     while let Some((size, after)) = rest.split_first_chunk::<2>() {
-        let count = u16::from_le_bytes(*size) as usize;
-        let Some((list, left)) = after.split_at_checked(12 * count) else {
-            break;
-        };
-        judge(&rt, &records(rt.alloc(), list)?)?;
+        let length = 12 * usize::from(u16::from_le_bytes(*size));
+        let (there, left) = after.split_at(length.min(after.len()));
+        let mut list = there.to_vec(rt.alloc())?;
+        // bytes that are missing at the end are zero
+        list.resize(length, 0)?;
+        judge(&rt, &records(rt.alloc(), &list)?)?;
         rest = left;
     }
     Ok(())
