@@ -48,13 +48,17 @@ fn summary(out: &mut String, run: &Run) {
 fn lists(out: &mut String, run: &Run) {
     out.push_str("| Zone list | Judging it, ns | Local calls with it, ratio |\n|---|---|---|\n");
     for (records, cost) in &run.judging {
+        let (least, most) = spread(cost.each().into_iter());
         let is_of = |row: &&Row| row.records == Some(*records);
         let (low, high) = spread(run.rows.iter().filter(is_of).map(Row::ratio));
-        writeln!(out, "| {records} | {cost:.1} | {low:.2} to {high:.2} |").unwrap();
+        writeln!(out, "| {records} | {least:.1} to {most:.1} | {low:.2} to {high:.2} |").unwrap();
     }
     if let [.., (fewer, less), (more, cost)] = run.judging[..] {
-        let each = (cost - less) / (more - fewer) as f64;
-        writeln!(out, "\nA further record of the list takes {each:.2} ns to judge.").unwrap();
+        let further = cost.each().into_iter().zip(less.each());
+        let each = further.map(|(cost, less)| (cost - less) / (more - fewer) as f64);
+        let (low, high) = spread(each);
+        writeln!(out, "\nA further record of the list takes {low:.2} to {high:.2} ns to judge.")
+            .unwrap();
     }
     writeln!(
         out,
@@ -141,7 +145,8 @@ of one machine, and of a busy one.
 - The original makes a string for each text, and dropping it counts as well: its strings here are the stand-ins of
   differential/stubs, one counted allocation each, not Boa's own. The archive writes into a lent output, which no one clears
   between calls. The cost of clearing and of making a `String` is said below.
-- The archive judges the zone list in every call that takes one, the original never. Judging is timed by itself: an infinite time is
-  turned back as soon as the list is judged; the same call without a list is subtracted. Rewriting is compared with the original's
+- The archive judges the zone list in every call that takes one, the original never. Judging is timed by itself, in each function that has
+  it compiled in: an empty text, an infinite time or an empty record is turned back as soon as the list is judged; the same call without a
+  list is subtracted. Rewriting is compared with the original's
   reading and then writing; it has no bar of its own but 1.
 ";

@@ -83,13 +83,46 @@ impl Row {
     }
 }
 
+/// Nanoseconds of a list's judging, by the function that has it compiled in: each has its own copy, and these differ.
+#[derive(Clone, Copy)]
+pub struct Judged {
+    read: f64,
+    local: f64,
+    build: f64,
+    set: f64,
+}
+
+impl Judged {
+    pub fn each(self) -> [f64; 4] {
+        [self.read, self.local, self.build, self.set]
+    }
+
+    fn of(self, group: Group) -> f64 {
+        match group {
+            Group::Read | Group::Rewrite => self.read,
+            Group::Iso | Group::Utc | Group::Local => self.local,
+            Group::Build => self.build,
+            Group::Set => self.set,
+        }
+    }
+
+    fn with(self, other: Self, join: impl Fn(f64, f64) -> f64) -> Self {
+        Self {
+            read: join(self.read, other.read),
+            local: join(self.local, other.local),
+            build: join(self.build, other.build),
+            set: join(self.set, other.set),
+        }
+    }
+}
+
 /// Everything measured in one run.
 pub struct Run {
     pub rows: Vec<Row>,
     /// Records of the list, and nanoseconds to judge it; while passes go on, with the call around it.
-    pub judging: Vec<(usize, f64)>,
-    /// The call around the judging.
-    unlisted: f64,
+    pub judging: Vec<(usize, Judged)>,
+    /// The calls around the judging.
+    unlisted: Judged,
     /// The ISO writer where its output is cleared first, and where a `String` is made.
     pub cleared: f64,
     pub string: f64,
@@ -108,11 +141,11 @@ pub fn run() -> Run {
         run.keep_best(&pass());
     }
     for (_, cost) in &mut run.judging {
-        *cost -= run.unlisted;
+        *cost = cost.with(run.unlisted, |listed, unlisted| listed - unlisted);
     }
     for row in &mut run.rows {
         let judging = run.judging.iter().find(|(records, _)| Some(*records) == row.records);
-        row.judging = judging.map_or(0.0, |(_, cost)| *cost);
+        row.judging = judging.map_or(0.0, |(_, cost)| cost.of(row.group));
     }
     run.datecheck = datecheck();
     run.v8 = crate::v8::run();
@@ -126,9 +159,9 @@ impl Run {
             row.theirs = row.theirs.min(again.theirs);
         }
         for (judging, again) in self.judging.iter_mut().zip(&other.judging) {
-            judging.1 = judging.1.min(again.1);
+            judging.1 = judging.1.with(again.1, f64::min);
         }
-        self.unlisted = self.unlisted.min(other.unlisted);
+        self.unlisted = self.unlisted.with(other.unlisted, f64::min);
         self.cleared = self.cleared.min(other.cleared);
         self.string = self.string.min(other.string);
     }
@@ -137,9 +170,8 @@ impl Run {
 /// All rows once.
 fn pass() -> Run {
     let zones = LISTS.map(Zone::new);
-    let refuse = |zone: Option<&Zone>| refused(zone.map(|zone| &zone.list));
-    let judging = zones.iter().map(|zone| (zone.records, refuse(Some(zone)))).collect();
-    let unlisted = refuse(None);
+    let judging = zones.iter().map(|zone| (zone.records, refused(&zone.list))).collect();
+    let unlisted = refused_unlisted();
     let mut rows = Vec::new();
     reading(&mut rows, &zones);
     rewriting(&mut rows, &zones);
@@ -191,19 +223,33 @@ fn row(group: Group, name: String, zone: Option<&Zone>, pair: Pair) -> Row {
     Row { group, name, records, ours: pair.ours, theirs: pair.theirs, judging: 0.0 }
 }
 
-/// An infinite time is turned back once the list is judged, and before anything else is done; or at
-/// once, where there is no list. It is subtracted from others, and one that is too long would flatter
-/// them: so more rounds than elsewhere.
-fn refused(list: Option<&ZoneList>) -> f64 {
-    let mut out = [0; 40];
+/// A refused call is subtracted from others, and one that is too long would flatter them: so more rounds than elsewhere.
+fn refusing(mut call: impl FnMut() -> Answer) -> f64 {
     let mut call = |_| {
-        let infinite = black_box(f64::INFINITY);
-        black_box(match list {
-            Some(list) => local(list, infinite, &mut out),
-            None => utc(infinite, &mut out),
-        });
+        black_box(call());
     };
     (0..4).map(|_| timing::one(INPUTS, &mut call)).fold(f64::INFINITY, f64::min)
+}
+
+/// Each call is turned back once the list is judged, and before anything else is done: an empty text, an infinite time, an
+/// empty record.
+fn refused(list: &ZoneList) -> Judged {
+    let mut out = [0; 40];
+    Judged {
+        read: refusing(|| read(list, black_box(""))),
+        local: refusing(|| local(list, black_box(f64::INFINITY), &mut out)),
+        build: refusing(|| build_local(list, black_box(&[]))),
+        set: refusing(|| set_hours(list, black_box(f64::INFINITY))),
+    }
+}
+
+/// The same where there is no list, so that they are turned back at once. Reading has no such call: the least of the others.
+fn refused_unlisted() -> Judged {
+    let mut out = [0; 40];
+    let local = refusing(|| utc(black_box(f64::INFINITY), &mut out));
+    let build = refusing(|| build_utc(black_box(&[])));
+    let set = refusing(|| set_utc_hours(black_box(f64::INFINITY)));
+    Judged { read: local.min(build).min(set), local, build, set }
 }
 
 // ---- the archive's functions on slices
@@ -238,6 +284,18 @@ fn build_utc(record: &[u8]) -> Answer {
 fn build_local(zone: &ZoneList, record: &[u8]) -> Answer {
     let z = zone.as_bytes();
     unsafe { ffi::zovattha_build_local(z.as_ptr(), z.len(), record.as_ptr(), record.len()) }
+}
+
+/// One field, the hour; only the time is of interest here.
+const HOUR: [u8; 9] = [1, 0, 0, 0, 0, 0, 0, 0, 0];
+
+fn set_hours(zone: &ZoneList, time: f64) -> Answer {
+    let (z, time) = (zone.as_bytes(), time.to_bits());
+    unsafe { ffi::zovattha_set_hours(z.as_ptr(), z.len(), time, HOUR.as_ptr(), HOUR.len()) }
+}
+
+fn set_utc_hours(time: f64) -> Answer {
+    unsafe { ffi::zovattha_set_utc_hours(time.to_bits(), HOUR.as_ptr(), HOUR.len()) }
 }
 
 /// Both sides gave this time.
