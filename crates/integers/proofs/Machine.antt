@@ -1,16 +1,15 @@
 -- The machine's signed integers, for proofs by `omega`: a result fits, and what is read back from its bits is the number. Assumes nothing.
-use mathlib.Core.Path.{◌≡◌, refl, sym, ap, ◌∙◌, subst}
+use mathlib.Core.Path.{◌≡◌, sym, ap, ◌∙◌, subst}
 use mathlib.Core.Bool.{Bool, true, false, not}
 use Prim.Native.Nat.{ℕ, suc, ◌+◌, ◌≤◌}
 use native.Mathlib.Omega.{arith}
-use borrow.Author.Tests.{ltb-true, ltb-false, le-leb, lt-leb}
 use lib.Dec.{T, leb}
-use lib.IntN.{ℤ, pos, negsuc, nat_abs, ◌+ℤ◌, ◌-ℤ◌}
-use lib.Signed.{mag, non_neg, le_z, lt_z, ◌≤ℤ◌, ◌<ℤ◌, le_z_yes, lt_z_yes, lt_z_no}
+use lib.IntN.{ℤ, pos, negsuc, nat_abs}
+use lib.Signed.{mag, le_z, lt_z, ◌≤ℤ◌, ◌<ℤ◌, le_z_yes, lt_z_yes, lt_z_no}
 use mir.Syntax.{Width, w32, w64}
 use mir.Val.{SFits, to_z, of_z}
 use mir.Facts.{to_z-of_z}
-use Rattle.integers.proofs.Int.{plus, minus, ints, add-fact, diff-fact, natural, abs-in}
+use Rattle.integers.proofs.Int.{plus, minus}
 
 mag-below : (z : ℤ) (k : ℕ) → (plus z ≤ minus z + k) × (minus z ≤ plus z + suc k) → mag z ≤ k
 mag-below (pos n) k h = omega arith
@@ -50,27 +49,11 @@ lt-true {a} {b} e = lt_z_yes (true-T (lt_z a b) e)
 pub lt-false : {a b : ℤ} → lt_z a b ≡ false → b ≤ℤ a
 lt-false {a} {b} e = lt_z_no (false-T (lt_z a b) e)
 
--- ---- a signed number that fits is read back from its bits; and so is what an operation g makes of it, cast to another width
+-- ---- a signed number that fits is read back from its bits
 pub kept : {w : Width} {z : ℤ} → SFits w z → to_z w (of_z w z) ≡ z
 kept f = to_z-of_z f
 
-pub record Cast (w v : Width) (g : ℤ → ℤ) (x : ℤ) : Type 0 where
-  pub made : SFits w (g (to_z w (of_z w x)))
-  pub taken : SFits v (to_z w (of_z w (g (to_z w (of_z w x)))))
-  pub value : to_z v (of_z v (to_z w (of_z w (g (to_z w (of_z w x)))))) ≡ g x
-
-pub cast : {w v : Width} (g : ℤ → ℤ) (x : ℤ) → SFits w x → SFits w (g x) → SFits v (g x) → Cast w v g x
-cast {w} {v} g x f a b =
-    record {
-      made = subst (λ z. SFits w (g z)) (sym (kept f)) a;
-      taken = subst (SFits v) (sym read_back) b;
-      value = ap (λ z. to_z v (of_z v z)) read_back ∙ kept b;
-    }
-  where
-    read_back : to_z w (of_z w (g (to_z w (of_z w x)))) ≡ g x
-    read_back = ap (λ z. to_z w (of_z w (g z))) (kept f) ∙ kept a
-
--- the same of a number that is first widened
+-- what an operation g makes of a number that is first widened, read back from its bits
 pub record Widened (v w : Width) (g : ℤ → ℤ) (x : ℤ) : Type 0 where
   pub widened : SFits w (to_z v (of_z v x))
   pub made : SFits w (g (to_z w (of_z w (to_z v (of_z v x)))))
@@ -103,57 +86,3 @@ from_zero f e = subst (λ z. pos 0 ≤ℤ z) (kept f) (lt-false e)
 -- a magnitude that was asked of the bits
 pub abs-of : {w : Width} {x : ℤ} {r : ℕ} → SFits w x → r ≡ nat_abs (to_z w (of_z w x)) → r ≡ nat_abs x
 abs-of f e = e ∙ ap nat_abs (kept f)
-
--- -1 - x of a negative x: from 0 up, one less than its magnitude, and of the same width
-pub flip : (n : ℕ) → negsuc 0 -ℤ negsuc n ≡ pos n
-flip n = omega (ints, diff-fact (negsuc 0) (negsuc n))
-
-pub flip-abs : (x : ℤ) → x <ℤ pos 0 → nat_abs (negsuc 0 -ℤ x) + 1 ≡ nat_abs x
-flip-abs (pos n) h = absurd (omega ints)
-flip-abs (negsuc n) h = omega (arith, ap nat_abs (flip n))
-
-pub flip-nonneg : (x : ℤ) → x <ℤ pos 0 → T (non_neg (negsuc 0 -ℤ x))
-flip-nonneg (pos n) h = absurd (omega ints)
-flip-nonneg (negsuc n) h = subst (λ z. T (non_neg z)) (sym (flip n)) tt
-
-pub flip-fits : {w : Width} (x : ℤ) → x <ℤ pos 0 → SFits w x → SFits w (negsuc 0 -ℤ x)
-flip-fits (pos n) h f = absurd (omega ints)
-flip-fits {w} (negsuc n) h f = subst (SFits w) (sym (flip n)) (record { sfits = f.sfits })
-
--- ---- a number raised by k, so that it is not negative, as the machine adds and reads it
-pub record Raised (k : ℕ) (z : ℤ) : Type 0 where
-  pub made : SFits w64 (to_z w64 (of_z w64 z) +ℤ pos k)
-  pub value : to_z w64 (of_z w64 (to_z w64 (of_z w64 z) +ℤ pos k)) ≡ pos (plus (z +ℤ pos k))
-  pub number : z +ℤ pos k ≡ pos (plus (z +ℤ pos k))
-  pub small : plus (z +ℤ pos k) ≤ k + k
-
-pub raise : (k : ℕ) (z : ℤ) → SFits w64 z → nat_abs z ≤ k → k ≤ 4_000_000_000_000_000_000 → Raised k z
-raise k z f h b =
-    record {
-      made = subst (λ i. SFits w64 (i +ℤ pos k)) (sym (kept f)) fits;
-      value = ap (λ i. to_z w64 (of_z w64 (i +ℤ pos k))) (kept f) ∙ kept fits ∙ number;
-      number = number;
-      small = omega (arith, abs-in z h, add-fact z (pos k), ap minus number);
-    }
-  where
-    fits : SFits w64 (z +ℤ pos k)
-    fits = fits64 (z +ℤ pos k) (omega (arith, abs-in z h, add-fact z (pos k)))
-
-    number : z +ℤ pos k ≡ pos (plus (z +ℤ pos k))
-    number = natural (z +ℤ pos k) (omega (ints, abs-in z h, add-fact z (pos k)))
-
--- ---- the two tests -k ≤ z and z ≤ k, of a number as the machine holds it, are one of its magnitude; k is n + 1
-module _ {w : Width} (n : ℕ) {z : ℤ} (f : SFits w z) where
-  pub below-bound : lt_z (to_z w (of_z w z)) (negsuc n) ≡ true → false ≡ leb (nat_abs z) (suc n)
-  below-bound e = go z (ap (λ i. lt_z i (negsuc n)) (sym (kept f)) ∙ e)
-    where
-      go : (i : ℤ) → lt_z i (negsuc n) ≡ true → false ≡ leb (nat_abs i) (suc n)
-      go (pos m) e = absurd (true-T false e)
-      go (negsuc m) e = sym (lt-leb (suc m) (suc n) (omega (arith, ltb-true n m e)))
-
-  pub above-bound : lt_z (to_z w (of_z w z)) (negsuc n) ≡ false → le_z (to_z w (of_z w z)) (pos (suc n)) ≡ leb (nat_abs z) (suc n)
-  above-bound e = ap (λ i. le_z i (pos (suc n))) (kept f) ∙ go z (ap (λ i. lt_z i (negsuc n)) (sym (kept f)) ∙ e)
-    where
-      go : (i : ℤ) → lt_z i (negsuc n) ≡ false → le_z i (pos (suc n)) ≡ leb (nat_abs i) (suc n)
-      go (pos m) e = refl
-      go (negsuc m) e = sym (le-leb (suc m) (suc n) (omega (arith, ltb-false n m e)))
