@@ -1,12 +1,13 @@
 -- The remainder of two floats by their digits and places, and the pattern of a number of smallest values. Assumes nothing.
-use Rattle.std.proofs.Common.{◌≡◌, ℕ, zero, suc, ◌+◌, ◌-◌, ◌*◌, ◌/◌, ◌%◌, ◌^◌, ◌<◌, ◌≤◌, min, Bool, true, false, cond, not, T, eqb, pos, sym, refl, ap, ◌∙◌, subst, ap₂, inl, inr, le_trans, lt_trans, le_of_eq, lt_of_lt_of_le, lt_of_le_of_lt, lt_irrefl, mul-le-mul_right, mod-lt, mod-eq_of_lt, mul_assoc, mul_comm, add-mul, add_comm, mul-le-mul_left, mul-pos, pow-suc, div-add-mod', zero-mul, mul-one, mul_right_comm, div-one, mul-div_cancel, arith, lit≤, eqb→eq, pow_pos, pow_mono, pow-add, shl_lt}
+use Rattle.std.proofs.Common.{◌≡◌, ℕ, zero, suc, ◌+◌, ◌-◌, ◌*◌, ◌/◌, ◌%◌, ◌^◌, ◌<◌, ◌≤◌, min, Bool, true, false, cond, not, ◌||◌, T, eqb, pos, sym, refl, ap, ◌∙◌, subst, ap₂, inl, inr, le_trans, lt_trans, le_of_eq, lt_of_lt_of_le, lt_of_le_of_lt, lt_irrefl, mul-le-mul_right, mod-lt, mod-eq_of_lt, mul_assoc, mul_comm, add-mul, add_comm, mul-le-mul_left, mul-pos, pow-suc, div-add-mod', zero-mul, true≢false, mul-one, mul_right_comm, div-one, mul-div_cancel, arith, lit≤, eqb→eq, pow_pos, pow_mono, pow-add, shl_lt}
 use Prim.Native.Nat.{compare}
 use native.Mathlib.Nat.{mul-add-mod_self_right, eq_of_mul-eq-mul_right, div-div-eq-div-mul, div-eq_of_lt, pow-succ'}
 use lib.Dec.{not_T}
+use mathlib.Core.Bool.{beq, false≢true}
 use lib.Count.{count_leading_zeros, leading_top, count_trailing_zeros, under}
 use lib.Bits.{bit_and, and_mask}
-use lib.Ieee.{Float, nan, inf, fin, binary64, fits, is_nan, nan_bits, up, down, size, nearest, odd, round, rem, of_fields, of_bits, to_bits}
-use lib.Ieee.Fits.{down_pos, round-fits}
+use lib.Ieee.{Float, nan, inf, fin, binary64, fits, is_nan, nan_bits, eq, up, down, size, nearest, odd, round, rem, of_fields, of_bits, to_bits}
+use lib.Ieee.Fits.{up_pos, down_pos, and_l, round-fits}
 use lib.Ieee.Bits.{cond_no, of_bits-fits, of_bits-to_bits}
 use lib.Ieee.Exact.{HasValue, round_exact}
 use lib.Ieee.Nearest.{div_same}
@@ -18,6 +19,8 @@ use Rattle.float.specs.Inner.{lead, place, mag}
 use Rattle.float.proofs.Rounding.{round-signed}
 use Rattle.float.proofs.Ops.{mod-scale}
 use Rattle.float.proofs.Special.{nan-only}
+use Rattle.float.proofs.Whole.{zero-factor}
+use Rattle.std.specs.Float.{float_is_infinite}
 use Rattle.float.proofs.Patterns.{pat, read, sign_bit, Fields, fields, digits_of, signed, bits_back, bits-lt, no_nan}
 use Rattle.float.proofs.Clearing.{fields-val, lead-lt, place-le, split, units_number}
 
@@ -408,22 +411,40 @@ rem-of-inf : (s : Bool) (y : Float) → rem binary64 (inf s) y ≡ nan
 unfolding rem
 rem-of-inf s y = refl
 
-rem-by-zero : (x : Float) (s : Bool) → rem binary64 x (fin s 0 (pos 0)) ≡ nan
-unfolding rem
-rem-by-zero nan s = refl
-rem-by-zero (inf t) s = refl
-rem-by-zero (fin t m e) s = refl
+rem-by-zero : (x y : Float) → eq y (of_bits binary64 0) ≡ true → rem binary64 x y ≡ nan
+unfolding rem eq of_bits
+rem-by-zero nan y e = refl
+rem-by-zero (inf t) y e = refl
+rem-by-zero (fin t m d) nan e = refl
+rem-by-zero (fin t m d) (inf s) e = absurd (false≢true e)
+rem-by-zero (fin t m d) (fin s n g) e =
+    let A = n * up g * 1 in
+    let B = 0 * down g in
+    let v : A ≡ B = eqb→eq A B (and_l (eqb A B) (beq s false || eqb A 0) (subst T (sym e) tt)) in
+    let z : n ≡ 0 = zero-factor n (up g) (up_pos g) (sym (mul-one (n * up g)) ∙ v ∙ zero-mul (down g)) in
+    ap (λ (i : ℕ). cond (eqb i 0) nan (round binary64 t (m * up d * down g % (i * up g * down d)) (down d * down g))) z
 
-inf_bits : (s : Bool) → to_bits binary64 (inf s) / 2 ^ 52 % 2 ^ 11 ≡ 2047
-unfolding to_bits
-inf_bits true = refl
-inf_bits false = refl
-
-pub rem-by-inf : (x : Float) (s : Bool) → T (not (is_nan x)) → (to_bits binary64 x / 2 ^ 52 % 2 ^ 11 ≡ 2047 → ⊥) → rem binary64 x (inf s) ≡ x
-unfolding rem is_nan
-rem-by-inf nan s n h = absurd n
-rem-by-inf (inf t) s n h = absurd (h (inf_bits t))
+rem-by-inf : (x : Float) (s : Bool) → is_nan x ≡ false → float_is_infinite x ≡ false → rem binary64 x (inf s) ≡ x
+unfolding rem is_nan float_is_infinite
+rem-by-inf nan s n h = absurd (true≢false n)
+rem-by-inf (inf t) s n h = absurd (true≢false h)
 rem-by-inf (fin t m e) s n h = refl
+
+-- std's word for an infinity
+infinite : (x : Float) → float_is_infinite x ≡ true → (s : Bool) × (x ≡ inf s)
+unfolding float_is_infinite
+infinite nan e = absurd (false≢true e)
+infinite (inf s) e = (s, refl)
+infinite (fin s m d) e = absurd (false≢true e)
+
+inf-infinite : (s : Bool) → float_is_infinite (inf s) ≡ true
+unfolding float_is_infinite
+inf-infinite s = refl
+
+zero-level : (s : Bool) → eq (fin s 0 (pos 0)) (of_bits binary64 0) ≡ true
+unfolding eq of_bits
+zero-level true = refl
+zero-level false = refl
 
 ones-at : (s : Bool) (t : ℕ) → T (not (is_nan (of_fields binary64 s 2047 t))) → of_fields binary64 s 2047 t ≡ inf s
 unfolding of_fields is_nan
@@ -458,25 +479,36 @@ module _ (x : Float) (held : T (fits binary64 x)) where
       let z = low-fields F.s F.x F.t F.x_lt F.t-lt (ap (λ (n : ℕ). n % 2 ^ 63) (sym F.is) ∙ e) in
       (F.s, from_fields F ∙ ap₂ (of_fields binary64 F.s) z.0 z.1 ∙ zero-fields F.s)
 
-module _ (x y : Float) (hx : fits binary64 x ≡ true) (hy : fits binary64 y ≡ true) where
-  pub no_nan_made : (r : ℕ) → to_bits binary64 x / 2 ^ 52 % 2 ^ 11 < 2047 → to_bits binary64 y / 2 ^ 52 % 2 ^ 11 < 2047 → 0 < to_bits binary64 y % 2 ^ 63
-      → of_bits binary64 r ≡ rem binary64 (of_bits binary64 (to_bits binary64 x)) (of_bits binary64 (to_bits binary64 y)) → T (not (nan_bits binary64 r))
-  no_nan_made r fx fy some e =
+-- the same as `remainder` asks for it
+module _ (x : Float) (held : fits binary64 x ≡ true) where
+  pub finite_field : is_nan x ≡ false → float_is_infinite x ≡ false → to_bits binary64 x / 2 ^ 52 % 2 ^ 11 < 2047
+  finite_field n f =
+      let no : to_bits binary64 x / 2 ^ 52 % 2 ^ 11 ≡ 2047 → ⊥ =
+      λ e. let i = is-inf x (true-T _ held) (false-T _ n) e in true≢false (sym (ap float_is_infinite i.1 ∙ inf-infinite i.0) ∙ f) in
+      omega (arith, no)
+
+  pub some_digits : eq x (of_bits binary64 0) ≡ false → 0 < to_bits binary64 x % 2 ^ 63
+  some_digits e =
+      let no : to_bits binary64 x % 2 ^ 63 ≡ 0 → ⊥ =
+      λ z. let i = is_zero x (true-T _ held) z in true≢false (sym (ap (λ (v : Float). eq v (of_bits binary64 0)) i.1 ∙ zero-level i.0) ∙ e) in
+      omega (arith, no)
+
+pub of_infinity : (x y : Float) → float_is_infinite x ≡ true → of_bits binary64 9221120237041090560 ≡ rem binary64 x y
+of_infinity x y f = let i = infinite x f in the-nan ∙ sym (ap (λ (v : Float). rem binary64 v y) i.1 ∙ rem-of-inf i.0 y)
+
+pub by_zero : (x y : Float) → eq y (of_bits binary64 0) ≡ true → of_bits binary64 9221120237041090560 ≡ rem binary64 x y
+by_zero x y e = the-nan ∙ sym (rem-by-zero x y e)
+
+pub by_infinity : (x y : Float) → is_nan x ≡ false → float_is_infinite x ≡ false → float_is_infinite y ≡ true → x ≡ rem binary64 x y
+by_infinity x y n h f = let i = infinite y f in sym (ap (rem binary64 x) i.1 ∙ rem-by-inf x i.0 n h)
+
+-- r is the pattern that `rem_bits` gives of two finite numbers
+module _ (r : ℕ) (x y : Float) (e : of_bits binary64 r ≡ rem binary64 (of_bits binary64 (to_bits binary64 x)) (of_bits binary64 (to_bits binary64 y))) (hx : fits binary64 x ≡ true) (hy : fits binary64 y ≡ true) where
+  pub of_two : of_bits binary64 r ≡ rem binary64 x y
+  of_two = e ∙ ap₂ (rem binary64) (bits_back x (true-T _ hx)) (bits_back y (true-T _ hy))
+
+  pub no_nan_made : is_nan x ≡ false → is_nan y ≡ false → float_is_infinite x ≡ false → eq y (of_bits binary64 0) ≡ false → float_is_infinite y ≡ false → T (not (nan_bits binary64 r))
+  no_nan_made nx ny fx some fy =
       no_nan r _ e
-      (subst (λ (v : Float). T (not (is_nan v))) (sym (rem_is (to_bits binary64 x) (to_bits binary64 y) (bits-lt x (true-T _ hx)) (bits-lt y (true-T _ hy)) fx fy some)) (round_number _ _ (2 ^ 1074)))
-
--- the same of two patterns, as `remainder` finds them: e is the exponent's field of x, z the pattern of y without its sign, and d the exponent's field of y
-module _ (x y : Float) (hx : fits binary64 x ≡ true) (hy : fits binary64 y ≡ true) (nx : is_nan x ≡ false) (ny : is_nan y ≡ false) where
-  pub of_infinity : (e : ℕ) → e ≡ to_bits binary64 x / 2 ^ 52 % 2 ^ 11 → e ≡ 2047 → of_bits binary64 9221120237041090560 ≡ rem binary64 x y
-  of_infinity e f t = let i = is-inf x (true-T _ hx) (false-T _ nx) (sym f ∙ t) in the-nan ∙ sym (ap (λ (v : Float). rem binary64 v y) i.1 ∙ rem-of-inf i.0 y)
-
-  pub by_zero : (z : ℕ) → z ≡ to_bits binary64 y % 2 ^ 63 → z ≡ 0 → of_bits binary64 9221120237041090560 ≡ rem binary64 x y
-  by_zero z f t = let i = is_zero y (true-T _ hy) (sym f ∙ t) in the-nan ∙ sym (ap (rem binary64 x) i.1 ∙ rem-by-zero x i.0)
-
-  pub by_infinity : (e d : ℕ) → e ≡ to_bits binary64 x / 2 ^ 52 % 2 ^ 11 → (e ≡ 2047 → ⊥) → d ≡ to_bits binary64 y / 2 ^ 52 % 2 ^ 11 → d ≡ 2047 → x ≡ rem binary64 x y
-  by_infinity e d g h f t =
-      let i = is-inf y (true-T _ hy) (false-T _ ny) (sym f ∙ t) in
-      sym (ap (rem binary64 x) i.1 ∙ rem-by-inf x i.0 (false-T _ nx) (λ k. h (g ∙ k)))
-
-  pub of_two : (r : ℕ) → of_bits binary64 r ≡ rem binary64 (of_bits binary64 (to_bits binary64 x)) (of_bits binary64 (to_bits binary64 y)) → of_bits binary64 r ≡ rem binary64 x y
-  of_two r e = e ∙ ap₂ (rem binary64) (bits_back x (true-T _ hx)) (bits_back y (true-T _ hy))
+      (subst (λ (v : Float). T (not (is_nan v))) (sym (rem_is (to_bits binary64 x) (to_bits binary64 y) (bits-lt x (true-T _ hx)) (bits-lt y (true-T _ hy)) (finite_field x hx nx fx) (finite_field y hy ny fy) (some_digits y hy some)))
+      (round_number _ _ (2 ^ 1074)))

@@ -247,7 +247,7 @@ fn rem_bits(a: u64, b: u64) -> u64
 }
 
 // Rust's `x % y`, for every two, without the C library's fmod.
-#[tactic(auto, using(crate::proofs::Digits::of_nan, crate::proofs::Digits::by_nan, crate::proofs::Digits::of_infinity, crate::proofs::Digits::by_zero, crate::proofs::Digits::by_infinity, crate::proofs::Digits::of_two))]
+#[tactic(auto, using(crate::proofs::Digits::of_nan, crate::proofs::Digits::by_nan, crate::proofs::Digits::of_infinity, crate::proofs::Digits::by_zero, crate::proofs::Digits::by_infinity, crate::proofs::Digits::finite_field, crate::proofs::Digits::some_digits, crate::proofs::Digits::of_two))]
 fn remainder(x: f64, y: f64) -> f64
     ensures { result ≡ rem binary64 x y }
 {
@@ -257,15 +257,13 @@ fn remainder(x: f64, y: f64) -> f64
     if y.is_nan() {
         return y;
     }
-    let a = x.to_bits();
-    let b = y.to_bits();
-    if exponent(a) == 0x7ff || without_sign(b) == 0 {
+    if x.is_infinite() || y == 0.0 {
         return f64::NAN;
     }
-    if exponent(b) == 0x7ff {
+    if y.is_infinite() {
         return x;
     }
-    f64::from_bits(rem_bits(a, b))
+    f64::from_bits(rem_bits(x.to_bits(), y.to_bits()))
 }
 
 // Rust's `rem_euclid`: x % y, and |y| more, rounded once, where that is below zero. A multiple of y below zero gives -0.0.

@@ -1,8 +1,10 @@
 -- `float::remainder` meets its contract: the remainder that is worked out is of two finite values, and no NaN. Assumes nothing.
-use Rattle.std.proofs.Common.{arith}
+use Rattle.std.proofs.Common.{sym, ◌∙◌}
 use Rattle.float.proofs.Digits.{no_nan_made}
 use Rattle.float.proofs.remainder.Goals as goal
 
 pub float_from_bits-result : goal.float_from_bits-result
 float_from_bits-result c =
-    no_nan_made c.args.x c.args.y c.well_formed.0.1 c.well_formed.1.0.1 c.rem_bits.result (omega (arith, c.exponent.ensures)) (omega (arith, c.exponent-2.ensures)) (omega (arith, c.without_sign.ensures)) c.rem_bits.ensures
+    no_nan_made c.rem_bits.result c.args.x c.args.y c.rem_bits.ensures c.well_formed.0.1 c.well_formed.1.0.1
+    (sym c.is_nan.ensures.value ∙ c.if-is_nan.false) (sym c.is_nan-2.ensures.value ∙ c.if-is_nan-2.false)
+    (sym c.is_infinite.ensures.value ∙ c.if-is_infinite.false) c.if-y.false (sym c.is_infinite-2.ensures.value ∙ c.if-is_infinite-2.false)
