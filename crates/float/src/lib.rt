@@ -208,22 +208,20 @@ fn low_zeros(n: u64, d: u64) -> u64
 }
 
 // q * 2 ^ d % n, as many bits at a time as n leaves above it.
-#[tactic(auto, using(crate::proofs::Digits::room_some, crate::proofs::Digits::stepped, crate::proofs::Digits::finished))]
+#[tactic(auto, using(crate::proofs::Digits::room_some, crate::proofs::Digits::rest_fits, crate::proofs::Digits::turned, crate::proofs::Digits::finished))]
 fn shifted_rem(q: u64, d: u64, n: u64) -> u64
     requires { (q < n) × (n < 2 ^ 53) }
     ensures { result ≡ q * 2 ^ d % n }
 {
+    if d == 0 {
+        return q;
+    }
     let s = u64::from(n.leading_zeros());
     let mut r = q;
-    let mut k = d;
-    while s < k {
+    for _ in 0..d / s {
         r = (r << s) % n;
-        k -= s;
     }
-    if k == 0 {
-        return r;
-    }
-    (r << k) % n
+    (r << (d % s)) % n
 }
 
 // The pattern of the remainder of a's value by b's, for two finite ones and a b that is not zero. It has a's sign.
