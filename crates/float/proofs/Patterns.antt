@@ -1,18 +1,11 @@
 -- What number a bit pattern of binary64 stands for. A pattern is `pat s x t`: the sign's bit, the 11 bits x of the exponent and the 52 bits t of the fraction.
 -- Assumes nothing.
-use Rattle.std.proofs.Common.{◌≡◌, ℕ, zero, suc, ◌+◌, ◌-◌, ◌*◌, ◌/◌, ◌%◌, ◌^◌, ◌<◌, ◌≤◌, Bool, true, false, cond, not, T, eqb, leb, sym, refl, ap, ◌∙◌, subst, ap₂, lt_of_le_of_lt, mod-lt, mod-eq_of_lt, zero-add, div-mul-le_self, arith, le→leb, leb→le, pow_pos}
+use Rattle.std.proofs.Common.{◌≡◌, ℕ, zero, suc, ◌+◌, ◌*◌, ◌/◌, ◌%◌, ◌^◌, ◌<◌, ◌≤◌, Bool, true, false, cond, not, T, eqb, leb, sym, refl, ap, ◌∙◌, subst, ap₂, zero-add, arith, le→leb, leb→le}
 use lib.Dec.{nleb→lt}
 use lib.Arith.{lt→nleb}
-use lib.Bits.{bit_or, bit_and, and_mask, or_shifted}
 use lib.Ieee.{Float, nan, inf, fin, binary64, fits, is_nan, nan_bits, to_bits, odd, of_fields, of_bits}
 use lib.Ieee.Bits.{is_true, is_false, of_bits-to_bits, to_bits-lt, nan_bits_is}
 use Rattle.float.specs.Rounding.{with_sign, is_negative, abs_f, copysign_f}
-
--- `((s >> 63) << 63) | (b & 0x7fff_ffff_ffff_ffff)`
-pub joined : (s b : ℕ) → s < 2 ^ 64 → bit_or (s / 2 ^ 63 * 2 ^ 63 % 2 ^ 64) (bit_and b (2 ^ 63 - 1)) ≡ s / 2 ^ 63 * 2 ^ 63 + b % 2 ^ 63
-joined s b h =
-    ap₂ bit_or (mod-eq_of_lt (lt_of_le_of_lt (div-mul-le_self s (2 ^ 63)) h)) (and_mask b 63)
-    ∙ or_shifted (s / 2 ^ 63) 63 (b % 2 ^ 63) (mod-lt b (pow_pos 63))
 
 -- ---- a pattern and its three fields
 

@@ -1,7 +1,5 @@
 -- The saturating casts. `x as i64` beyond the range is the nearer end of it, and every narrower cast is `x as i64` kept within its range. Assumes nothing.
-use Rattle.std.proofs.Common.{◌≡◌, ℕ, zero, suc, ◌-◌, ◌*◌, ◌/◌, ◌^◌, ◌≤◌, min, Bool, true, false, not, T, ℤ, pos, negsuc, neg_ℤ, nat_abs, sym, refl, ap, ◌∙◌, subst, true≢false, arith, ltb→lt, nltb→le, to_z-of_z, w64, to_z, of_z}
-use mathlib.Core.Bool.{false≢true}
-use lib.Signed.{lt_z, non_neg}
+use Rattle.std.proofs.Common.{◌≡◌, ℕ, zero, suc, ◌-◌, ◌*◌, ◌/◌, ◌^◌, ◌≤◌, min, true, false, ℤ, pos, negsuc, neg_ℤ, sym, refl, ap, ◌∙◌, arith, to_z-of_z, w64, to_z, of_z}
 use lib.Ieee.{Float, nan, inf, fin, up, down, to_unsigned, to_signed}
 use lib.Ieee.Casts.{to_signed_in}
 use Rattle.integers.proofs.Int.{plus, neg-fact}
@@ -68,34 +66,3 @@ to_unsigned-narrow k (fin false m e) l = narrow (m * up e / down e) 922337203685
 -- ---- a result of `as_i64` read back
 pub read_back : (x : Float) (r : ℤ) → r ≡ to_signed 63 x → to_z w64 (of_z w64 r) ≡ to_signed 63 x
 read_back x r e = ap (λ (z : ℤ). to_z w64 (of_z w64 z)) e ∙ to_z-of_z {w = w64} (record { sfits = to_signed_in 63 x })
-
--- ---- kept within the range from 0 to K, and from -(K + 1) to K
-low-plus : (z : ℤ) (K : ℕ) → lt_z z (pos 0) ≡ true → 0 ≡ min (plus z) K
-low-plus (pos n) K t = absurd (omega (arith, ltb→lt n 0 (subst T (sym t) tt)))
-low-plus (negsuc n) K t = omega arith
-
-high-plus : (z : ℤ) (K : ℕ) → lt_z (pos K) z ≡ true → K ≡ min (plus z) K
-high-plus (pos n) K t = omega (arith, ltb→lt K n (subst T (sym t) tt))
-high-plus (negsuc n) K t = absurd (false≢true t)
-
-kept-plus : (z : ℤ) (K : ℕ) → lt_z z (pos 0) ≡ false → lt_z (pos K) z ≡ false → T (non_neg z) × (nat_abs z ≤ K) × (nat_abs z ≡ min (plus z) K)
-kept-plus (pos n) K t u = let l : n ≤ K = nltb→le K n (subst (λ (b : Bool). T (not b)) (sym u) tt) in (tt, l, omega arith)
-kept-plus (negsuc n) K t u = absurd (true≢false t)
-
--- ---- what each path of a narrower cast returns, for r the result of `as_i64`
-module _ (x : Float) (r : ℤ) (e : r ≡ to_signed 63 x) where
-  abbrev z : ℤ
-  z = to_z w64 (of_z w64 r)
-
-  module _ (k : ℕ) (l : 2 ^ k ≤ 2 ^ 63) where
-    unsigned_is : min (plus z) (2 ^ k - 1) ≡ to_unsigned k x
-    unsigned_is = ap (λ (i : ℤ). min (plus i) (2 ^ k - 1)) (read_back x r e) ∙ sym (to_unsigned-narrow k x l)
-
-    pub unsigned-low : lt_z z (pos 0) ≡ true → 0 ≡ to_unsigned k x
-    unsigned-low t = low-plus z (2 ^ k - 1) t ∙ unsigned_is
-
-    pub unsigned-high : lt_z (pos (2 ^ k - 1)) z ≡ true → 2 ^ k - 1 ≡ to_unsigned k x
-    unsigned-high t = high-plus z (2 ^ k - 1) t ∙ unsigned_is
-
-    pub unsigned-kept : lt_z z (pos 0) ≡ false → lt_z (pos (2 ^ k - 1)) z ≡ false → T (non_neg z) × (nat_abs z ≤ 2 ^ k - 1) × (nat_abs z ≡ to_unsigned k x)
-    unsigned-kept t u = let p = kept-plus z (2 ^ k - 1) t u in (p.0, p.1, p.2 ∙ unsigned_is)

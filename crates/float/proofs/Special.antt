@@ -1,9 +1,8 @@
--- NaN: the test `x != x`, the equality with it, and the NaN that the code makes.
--- Assumes nothing.
+-- NaN: the test `x != x`, and the equality with it. Assumes nothing.
 use Rattle.std.proofs.Common.{◌≡◌, true, false, not, T, refl, subst}
 use mathlib.Core.Bool.{false≢true}
 use lib.Dec.{not_T}
-use lib.Ieee.{Float, nan, inf, fin, div, eq, ne, is_nan, binary64, of_bits}
+use lib.Ieee.{Float, nan, inf, fin, eq, ne, is_nan}
 use lib.Ieee.Bits.{is_false}
 use lib.Ieee.Compare.{differs_from_itself, nan_differs}
 use lib.Ieee.Scale.{finite}
@@ -46,8 +45,3 @@ unfolding eq
 eq-nan-right nan = refl
 eq-nan-right (inf s) = refl
 eq-nan-right (fin s m e) = refl
-
--- ---- the NaN that the code makes
-pub made-nan : div binary64 (of_bits binary64 0) (of_bits binary64 0) ≡ nan
-unfolding div of_bits
-made-nan = refl

@@ -1,13 +1,14 @@
 -- `is_whole_within` is `WholeWithin`, both ways, for every bound to 2^53: what equals its own whole part is a whole number. A number equals its whole
 -- part where the two have one pattern. With +0 for -0 it is the f64 of its whole number. Assumes nothing.
 use Rattle.std.proofs.Common.{◌≡◌, ℕ, zero, suc, ◌*◌, ◌^◌, ◌<◌, ◌≤◌, Bool, true, false, cond, not, ◌&&◌, ◌||◌, T, eqb, ℤ, pos, negsuc, nat_abs, sym, refl, ap, ◌∙◌, subst, true≢false, mul-one, mul_right_comm, lit≤, le→leb, eqb→eq, leb→le}
-use mathlib.Core.Bool.{beq, false≢true}
+use mathlib.Core.Bool.{beq, false≢true, and-true, and-false}
 use native.Mathlib.Nat.{eq_of_mul-eq-mul_right}
 use lib.Signed.{le_z_yes}
 use lib.Ieee.{Float, nan, inf, fin, binary64, up, down, level, of_int, of_bits, to_bits, is_nan, lt, eq, le, ne, fits}
 use lib.Ieee.Bits.{is_true, to_bits-of_bits}
 use lib.Ieee.Fits.{eq→eqb, and_l, and_r, down_pos, of_int-fits}
 use Rattle.integers.proofs.Int.{ints}
+use Rattle.integers.proofs.Machine.{true-T}
 use Rattle.float.specs.Whole.{signed, IsWhole, WholeWithin}
 use Rattle.float.specs.Rounding.{trunc_f, abs_f, is_whole_within, plus_zero}
 use Rattle.float.proofs.Fractions.{same_test}
@@ -53,11 +54,11 @@ same_whole (fin s m e) (fin u n d) {z} w t =
 
 -- ---- the tests on patterns
 -- what has a magnitude that is no larger than some number is no NaN
-pub bounded-number : (x y : Float) → le (abs_f x) y ≡ true → T (not (is_nan x))
+bounded : (x y : Float) → le (abs_f x) y ≡ true → T (not (is_nan x))
 unfolding le lt eq abs_f is_nan
-bounded-number nan y t = absurd (false≢true t)
-bounded-number (inf s) y t = tt
-bounded-number (fin s m e) y t = tt
+bounded nan y t = absurd (false≢true t)
+bounded (inf s) y t = tt
+bounded (fin s m e) y t = tt
 
 equals_itself : (x : Float) → T (not (is_nan x)) → T (eq x x)
 unfolding ne
@@ -73,12 +74,29 @@ own-part nan h t = refl
 own-part (inf s) h t = refl
 own-part (fin s m e) h t = let x = fin s m e in trunc-own h (same_whole (trunc_f x) x (trunc-whole x h tt) (is_true (eq (trunc_f x) x) t))
 
-pub same-pattern : (x : Float) (r : ℕ) → T (fits binary64 x) → T (not (is_nan x)) → r < 2 ^ 64 → of_bits binary64 r ≡ trunc_f x → eqb r (to_bits binary64 x) ≡ eq (trunc_f x) x
-same-pattern x r h n l e =
+same-bits : (x : Float) (r : ℕ) → T (fits binary64 x) → T (not (is_nan x)) → r < 2 ^ 64 → of_bits binary64 r ≡ trunc_f x → eqb r (to_bits binary64 x) ≡ eq (trunc_f x) x
+same-bits x r h n l e =
     same_test (eqb r (to_bits binary64 x)) (eq (trunc_f x) x)
     (λ t. subst (λ (y : Float). T (eq y x)) (sym (ap (of_bits binary64) (eqb→eq r (to_bits binary64 x) t) ∙ bits_back x h) ∙ e) (equals_itself x n))
     (λ t. let o : of_bits binary64 r ≡ x = e ∙ own-part x h t in
     eq→eqb (sym (to_bits-of_bits binary64 r l (subst (λ (y : Float). T (not (is_nan y))) (sym o) n)) ∙ ap (to_bits binary64) o))
+
+-- the same as `is_whole_within` finds it: m is x's magnitude
+module _ (x most m : Float) where
+  pub bounded_number : le m most ≡ true → m ≡ abs_f x → T (not (is_nan x))
+  bounded_number t is = bounded x most (ap (λ (y : Float). le y most) (sym is) ∙ t)
+
+  pub unbounded : le m most ≡ false → m ≡ abs_f x → false ≡ is_whole_within most x
+  unfolding is_whole_within
+  unbounded t is = let own = eq (trunc_f x) x in sym (ap (λ (b : Bool). own && b) (ap (λ (y : Float). le y most) (sym is) ∙ t) ∙ and-false own)
+
+  pub same_pattern : (r : ℕ) → le m most ≡ true → m ≡ abs_f x → of_bits binary64 r ≡ trunc_f (of_bits binary64 (to_bits binary64 x)) → r < 2 ^ 64 → fits binary64 x ≡ true
+      → eqb r (to_bits binary64 x) ≡ is_whole_within most x
+  unfolding is_whole_within
+  same_pattern r t is e l held =
+      let h = true-T _ held in
+      let own = eq (trunc_f x) x in
+      same-bits x r h (bounded_number t is) l (e ∙ ap trunc_f (bits_back x h)) ∙ sym (ap (λ (b : Bool). own && b) (ap (λ (y : Float). le y most) (sym is) ∙ t) ∙ and-true own)
 
 -- ---- the test is the record, both ways
 both : (a b : Bool) → (a && b) ≡ true → (a ≡ true) × (b ≡ true)

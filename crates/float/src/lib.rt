@@ -276,18 +276,15 @@ pub fn rem_euclid(x: f64, y: f64) -> f64
 
 // ---- integers
 
-// Whether x is a whole number, and no larger than `most` either way: no NaN is, and of any other the pattern is that of its whole part.
+// 2^53: a whole number to there, either way, is an f64.
+pub const EXACT_LIMIT: f64 = 9_007_199_254_740_992.0;
+
+// Whether x is a whole number, and no larger than `most` either way. No NaN passes the first test; of a number the pattern is that of its whole part.
+#[tactic(auto, using(crate::proofs::Within::unbounded))]
 pub fn is_whole_within(x: f64, most: f64) -> bool
     ensures { result ≡ is_whole_within most x }
 {
-    if x.is_nan() {
-        return false;
-    }
-    if abs(x) <= most {
-        let b = x.to_bits();
-        return trunc_bits(b) == b;
-    }
-    false
+    abs(x) <= most && trunc_bits(x.to_bits()) == x.to_bits()
 }
 
 // A whole number as an integer. A sum with 0.0 is never -0, which the cast does not take.
@@ -303,7 +300,7 @@ pub fn exact_i64(x: f64) -> i64
 pub fn as_i64(x: f64) -> i64
     ensures { result ≡ to_signed 63 x }
 {
-    if is_whole_within(x, 9007199254740992.0) {
+    if is_whole_within(x, EXACT_LIMIT) {
         return exact_i64(x);
     }
     std::num::saturating_f64_to_i64(x)
