@@ -311,7 +311,7 @@ pub fn as_i64(x: f64) -> i64
 pub fn as_i32(x: f64) -> i32
     ensures { result ≡ to_signed 31 x }
 {
-    as_i64(x).clamp(-0x8000_0000, 0x7fff_ffff) as i32
+    as_i64(x).clamp(i64::from(i32::MIN), i64::from(i32::MAX)) as i32
 }
 
 // Rust's `x as u16`.
@@ -319,7 +319,7 @@ pub fn as_i32(x: f64) -> i32
 pub fn as_u16(x: f64) -> u16
     ensures { result ≡ to_unsigned 16 x }
 {
-    as_i64(x).clamp(0, 0xffff) as u16
+    as_i64(x).clamp(0, i64::from(u16::MAX)) as u16
 }
 
 // Rust's `x as u8`.
@@ -327,7 +327,7 @@ pub fn as_u16(x: f64) -> u16
 pub fn as_u8(x: f64) -> u8
     ensures { result ≡ to_unsigned 8 x }
 {
-    as_i64(x).clamp(0, 0xff) as u8
+    as_i64(x).clamp(0, i64::from(u8::MAX)) as u8
 }
 
 // ECMA-262, ToIntegerOrInfinity of a number: NaN and -0.5 give +0.0, an infinity is itself, and any other is cut toward zero.
