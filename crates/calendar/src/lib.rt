@@ -5,9 +5,10 @@
 
 ghost use Rattle.std.specs.Prelude.{◌≡◌, ◌<◌, ◌≤◌, cond, pos, nat_abs, ◌+ℤ◌, IfSome};
 ghost use Rattle.std.specs.Float.{binary64};
-ghost use Rattle.std.specs.Float.Ieee.{sub, lt, of_int, to_signed};
+ghost use Rattle.std.specs.Float.Ieee.{sub, div, lt, of_int, to_unsigned, to_signed};
 ghost use Rattle.std.specs.Int.Signed.{lt_z};
 ghost use Rattle.ecma262.specs.Date.{day_from_year, leap_of, days_before, month_of, make_day};
+ghost use Rattle.float.specs.Rounding.{floor_f, rem_euclid_f};
 ghost use Rattle.float.specs.Whole.{trunc_z, WholeWithin};
 ghost use Rattle.calendar.specs.Calendar.{year_counted, day_f, time_within_day_f, days_in_year_f, day_from_year_f, time_from_year_f, year_estimate_f, year_from_time_f, day_within_year_f, in_leap_year_f, leap_f, day_within_f, month_from_time_f, date_from_time_f, week_day_f, hour_from_time_f, min_from_time_f, sec_from_time_f, ms_from_time_f};
 
@@ -26,6 +27,14 @@ pub const MS_PER_MINUTE: f64 = 60_000.0;
 pub const MS_PER_HOUR: f64 = 3_600_000.0;
 
 pub const MS_PER_DAY: f64 = 86_400_000.0;
+
+// A day in a count of milliseconds.
+const COUNTED_DAY: u64 = 86_400_000;
+
+// The days from the first of the years that are counted (`CountedYear`) to 1970, and their milliseconds.
+const DAYS_BEFORE_1970: i64 = 439_010_162;
+
+pub const MS_BEFORE_1970: i64 = DAYS_BEFORE_1970 * 86_400_000;
 
 // 12 × 30.436875 × msPerDay = 365.2425 × 86,400,000, and half of it
 const MS_PER_AVERAGE_YEAR: f64 = 31_556_952_000.0;
@@ -57,13 +66,13 @@ impl CountedYear {
         }
     }
 
-    // DayFromYear: counted so, the first day of the year z is 365 z + z / 4 - z / 100 + z / 400, and day 0 is 439,010,162.
+    // DayFromYear: counted so, the first day of the year z is 365 z + z / 4 - z / 100 + z / 400.
     #[tactic(auto, using(crate::proofs::Counting::first_day_is))]
     fn first_day(self) -> i64
         ensures { result ≡ day_from_year (year_counted self.count) }
     {
         let z = self.count;
-        i64::from(365 * z + z / 4 - z / 100 + z / 400) - 439_010_162
+        i64::from(365 * z + z / 4 - z / 100 + z / 400) - DAYS_BEFORE_1970
     }
 
     fn is_leap(self) -> bool
@@ -74,12 +83,12 @@ impl CountedYear {
     }
 }
 
-// A whole time, counted from as many days back as the first of those years: 439,010,162, which is 37,930,477,996,800,000 ms.
+// A whole time, counted from the first day of those years.
 pub fn counted(t: i64) -> u64
     requires { nat_abs t ≤ 37_000_000_000_000_000 }
-    ensures { pos result ≡ t +ℤ pos 37_930_477_996_800_000 }
+    ensures { pos result ≡ t +ℤ MS_BEFORE_1970 }
 {
-    (t + 37_930_477_996_800_000) as u64
+    (t + MS_BEFORE_1970) as u64
 }
 
 // MakeDay(year, month, date), of a month within the year.
@@ -96,7 +105,7 @@ pub fn day_number(year: i64, month: u32, date: i64) -> i64
 
 // A whole time of the range, or of its local shifts, 86,399 s either way: counted.
 fn shown_count(t: f64) -> Option<u64>
-    ensures { IfSome result (λ n. WholeWithin 8_640_000_086_399_000 t × (pos n ≡ trunc_z t +ℤ pos 37_930_477_996_800_000)) }
+    ensures { IfSome result (λ n. WholeWithin 8_640_000_086_399_000 t × (pos n ≡ trunc_z t +ℤ MS_BEFORE_1970)) }
 {
     if float::is_whole_within(t, 8_640_000_086_399_000.0) {
         return Some(counted(float::exact_i64(t)));
@@ -122,7 +131,7 @@ fn days_into(year: i32, t: f64) -> Option<i64>
 {
     let n = shown_count(t)?;
     let counted = near_year(year)?;
-    Some((n / 86_400_000) as i64 - 439_010_162 - counted.first_day())
+    Some((n / COUNTED_DAY) as i64 - DAYS_BEFORE_1970 - counted.first_day())
 }
 
 // ---- the operations of utils.rs
@@ -322,7 +331,7 @@ pub fn week_day(t: f64) -> u8
     ensures { result ≡ week_day_f t }
 {
     if let Some(n) = shown_count(t) {
-        return ((n / 86_400_000 + 1) % 7) as u8;
+        return ((n / COUNTED_DAY + 1) % 7) as u8;
     }
     // 1. Return 𝔽(ℝ(Day(t) + 4𝔽) modulo 7).
     float::as_u8(float::rem_euclid(day(t) + 4.0, 7.0))
@@ -337,6 +346,14 @@ pub struct Clock {
     pub ms: u16,
 }
 
+// HourFromTime(t), MinFromTime(t) and SecFromTime(t), by the unit's milliseconds and how many units make the next larger one.
+fn clock_field(t: f64, unit: f64, count: f64) -> u8
+    ensures { result ≡ to_unsigned 8 (rem_euclid_f (floor_f (div binary64 t unit)) count) }
+{
+    // 1. Return 𝔽(floor(ℝ(t / msPerHour)) modulo HoursPerDay), and likewise by minutes and seconds.
+    float::as_u8(float::rem_euclid(float::floor(t / unit), count))
+}
+
 // HourFromTime(t), MinFromTime(t), SecFromTime(t) and msFromTime(t): what is counted for one is counted for all.
 pub fn clock_of(t: f64) -> Clock
     ensures { (result.hour ≡ hour_from_time_f t) × (result.minute ≡ min_from_time_f t) × (result.second ≡ sec_from_time_f t) × (result.ms ≡ ms_from_time_f t) }
@@ -349,14 +366,11 @@ pub fn clock_of(t: f64) -> Clock
             ms: (n % 1_000) as u16,
         };
     }
-    // 1. Return 𝔽(floor(ℝ(t / msPerHour)) modulo HoursPerDay), and likewise by minutes and seconds; 𝔽(ℝ(t) modulo ℝ(msPerSecond)).
+    // 1. Return 𝔽(ℝ(t) modulo ℝ(msPerSecond)), for the last.
     Clock {
-        hour: float::as_u8(float::rem_euclid(float::floor(t / MS_PER_HOUR), HOURS_PER_DAY)),
-        minute: float::as_u8(float::rem_euclid(float::floor(t / MS_PER_MINUTE), MINUTES_PER_HOUR)),
-        second: float::as_u8(float::rem_euclid(
-            float::floor(t / MS_PER_SECOND),
-            SECONDS_PER_MINUTE,
-        )),
+        hour: clock_field(t, MS_PER_HOUR, HOURS_PER_DAY),
+        minute: clock_field(t, MS_PER_MINUTE, MINUTES_PER_HOUR),
+        second: clock_field(t, MS_PER_SECOND, SECONDS_PER_MINUTE),
         ms: float::as_u16(float::rem_euclid(t, MS_PER_SECOND)),
     }
 }
