@@ -3,3 +3,4 @@ pub mod Table
 mod Wrap
 mod Quick
 pub mod Counting
+pub mod Literals

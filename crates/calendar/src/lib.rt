@@ -34,7 +34,7 @@ const COUNTED_DAY: u64 = 86_400_000;
 // The days from the first of the years that are counted (`CountedYear`) to 1970, and their milliseconds.
 const DAYS_BEFORE_1970: i64 = 439_010_162;
 
-pub const MS_BEFORE_1970: i64 = DAYS_BEFORE_1970 * 86_400_000;
+pub const MS_BEFORE_1970: i64 = DAYS_BEFORE_1970 * COUNTED_DAY as i64;
 
 // 12 × 30.436875 × msPerDay = 365.2425 × 86,400,000, and half of it
 const MS_PER_AVERAGE_YEAR: f64 = 31_556_952_000.0;
@@ -137,6 +137,7 @@ fn days_into(year: i32, t: f64) -> Option<i64>
 // ---- the operations of utils.rs
 
 // Day(t)
+#[tactic(auto, using(crate::proofs::Literals::ms_per_day), unfolding(crate::specs::Calendar::day_f))]
 pub fn day(t: f64) -> f64
     ensures { result ≡ day_f t }
 {
@@ -145,6 +146,7 @@ pub fn day(t: f64) -> f64
 }
 
 // TimeWithinDay(t)
+#[tactic(auto, using(crate::proofs::Literals::ms_per_day), unfolding(crate::specs::Calendar::time_within_day_f))]
 pub fn time_within_day(t: f64) -> f64
     ensures { result ≡ time_within_day_f t }
 {
@@ -189,6 +191,7 @@ pub fn day_from_year(y: f64) -> f64
 }
 
 // TimeFromYear(y)
+#[tactic(auto, using(crate::proofs::Literals::ms_per_day), unfolding(crate::specs::Calendar::time_from_year_f))]
 pub fn time_from_year(y: f64) -> f64
     ensures { result ≡ time_from_year_f y }
 {
