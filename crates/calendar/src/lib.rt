@@ -117,10 +117,7 @@ fn shown_count(t: f64) -> Option<u64>
 fn near_year(year: i32) -> Option<CountedYear>
     ensures { IfSome result (λ z. (nat_abs year ≤ 280_001) × (year_counted z.count ≡ year)) }
 {
-    if year.unsigned_abs() <= 280_001 {
-        return Some(CountedYear::of(i64::from(year)));
-    }
-    None
+    (year.unsigned_abs() <= 280_001).then(|| CountedYear::of(i64::from(year)))
 }
 
 // Day(t) - DayFromYear(year), of such a time and such a year: what it is in f64. It is negative where the year starts after t, since
@@ -233,7 +230,7 @@ fn day_within(year: i32, t: f64) -> u16
     ensures { result ≡ day_within_f year t }
 {
     match days_into(year, t) {
-        Some(days) => days.clamp(0, 0xffff) as u16,
+        Some(days) => days.clamp(0, i64::from(u16::MAX)) as u16,
         None => float::as_u16(day(t) - day_from_year(f64::from(year))),
     }
 }
