@@ -1,11 +1,11 @@
 -- ToIntegerOrInfinity of a number that is not NaN is its whole part, with -0 turned into +0. Assumes nothing.
-use Rattle.std.proofs.Common.{◌≡◌, ℕ, zero, suc, ◌*◌, ◌/◌, Bool, true, false, not, T, pos, negsuc, sym, refl, ap, ◌∙◌, subst, true≢false}
+use Rattle.std.proofs.Common.{◌≡◌, ℕ, zero, suc, ◌*◌, ◌/◌, Bool, true, false, cond, not, ◌&&◌, ◌||◌, T, eqb, pos, negsuc, sym, refl, ap, ◌∙◌, subst, true≢false, zero-mul}
 use mathlib.Core.Bool.{false≢true}
 use lib.Ieee.{Float, nan, inf, fin, binary64, fits, is_nan, up, down, eq, round, of_bits, of_int}
 use lib.Ieee.Scale.{finite}
 use Rattle.integers.proofs.Machine.{true-T}
 use Rattle.float.specs.Whole.{signed, IsWhole, trunc_z, plain}
-use Rattle.float.specs.Rounding.{trunc_f, to_integer_or_infinity}
+use Rattle.float.specs.Rounding.{trunc_f, abs_f, to_integer_or_infinity, plus_zero}
 use Rattle.float.proofs.Rounding.{trunc-fin, trunc-whole}
 use Rattle.float.proofs.Order.{eq_z, eq_z→eq, eq-whole, eq_yes, eq_no}
 use Rattle.float.proofs.Whole.{plain-nonzero}
@@ -62,6 +62,32 @@ module _ (x : Float) (held : fits binary64 x ≡ true) (t : Float) (is : t ≡ t
 
   pub of_other : T (not (is_nan x)) → eq t (of_bits binary64 0) ≡ false → t ≡ to_integer_or_infinity x
   of_other n e = is ∙ integer-other x (true-T _ held) n (ap (λ v. eq v (of_bits binary64 0)) (sym is) ∙ e)
+
+-- whatever the sign of a zero is, it equals 0
+pub abs-zero-test : (x : Float) → eq (abs_f x) (of_bits binary64 0) ≡ eq x (of_bits binary64 0)
+unfolding eq abs_f of_bits
+abs-zero-test nan = refl
+abs-zero-test (inf s) = refl
+abs-zero-test (fin false m e) = refl
+abs-zero-test (fin true m e) =
+    let A = m * up e * 1 in
+    subst (λ (i : ℕ). (eqb A i && true) ≡ (eqb A i && (false || eqb A 0))) (sym (zero-mul (down e))) (same (eqb A 0))
+  where
+    same : (b : Bool) → (b && true) ≡ (b && (false || b))
+    same true = refl
+    same false = refl
+
+-- of a finite float it is the whole part, with +0 for a zero
+pub integer-is : (x : Float) → T (fits binary64 x) → T (finite x) → to_integer_or_infinity x ≡ plus_zero (trunc_f x)
+integer-is x h F = go (eq (trunc_f x) (of_bits binary64 0)) refl
+  where
+    go : (b : Bool) → eq (trunc_f x) (of_bits binary64 0) ≡ b → to_integer_or_infinity x ≡ plus_zero (trunc_f x)
+    go b e =
+        by b e ∙ sym (ap (λ c. cond c (of_int binary64 (pos 0)) (trunc_f x)) (ap (eq (abs_f (trunc_f x))) (sym zero-int) ∙ abs-zero-test (trunc_f x) ∙ e))
+      where
+        by : (b : Bool) → eq (trunc_f x) (of_bits binary64 0) ≡ b → to_integer_or_infinity x ≡ cond b (of_int binary64 (pos 0)) (trunc_f x)
+        by true e = sym (integer-zero x h e) ∙ zero-int
+        by false e = sym (integer-other x h (finite_number x F) e)
 
 -- of a finite float it is the whole number, and not -0
 pub integer-whole : (x : Float) → T (fits binary64 x) → T (finite x) → IsWhole (to_integer_or_infinity x) (trunc_z x) × T (plain (to_integer_or_infinity x))
