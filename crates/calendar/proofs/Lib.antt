@@ -1,6 +1,6 @@
 pub mod Whole
 pub mod Table
-mod Wrap
+pub mod Wrap
 mod Quick
 pub mod Counting
 pub mod Literals

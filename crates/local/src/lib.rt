@@ -10,13 +10,15 @@ ghost use Rattle.local.specs.Local.{asked_second, asked_second_f, offset_seconds
 use calendar::MS_PER_SECOND;
 use zone::ZoneList;
 
-// The second of a whole time, rounded down: counted as calendar does, from 37,930,477,996,800 seconds back, no time is negative, and an
-// unsigned quotient rounds down.
+// The seconds before 1970 from which calendar counts a time.
+const SECONDS_BEFORE_1970: i64 = calendar::MS_BEFORE_1970 / 1_000;
+
+// The second of a whole time, rounded down: counted as calendar does, no time is negative, and an unsigned quotient rounds down.
 pub fn second_of(t: i64) -> i64
     requires { nat_abs t ≤ 37_000_000_000_000_000 }
     ensures { result ≡ asked_second t }
 {
-    (calendar::counted(t) / 1_000) as i64 - 37_930_477_996_800
+    (calendar::counted(t) / 1_000) as i64 - SECONDS_BEFORE_1970
 }
 
 // The second to look up; beyond 64 bits the nearest end. The quick way is for whole times whose operations below are exact.
@@ -42,7 +44,7 @@ pub fn local_timezone_offset_seconds(t: f64, zone: ZoneList) -> i32
 fn shift(t: f64, zone: ZoneList) -> f64
     ensures { result ≡ shift_f (records zone.entry.bytes.now) t }
 {
-    local_timezone_offset_seconds(t, zone) as f64 * MS_PER_SECOND
+    f64::from(local_timezone_offset_seconds(t, zone)) * MS_PER_SECOND
 }
 
 // LocalTime(t)

@@ -4,8 +4,10 @@ use mathlib.Core.Bool.{Bool, true, false, cond, ◌&&◌}
 use Prim.Native.Nat.{ℕ}
 use lib.Ieee.{Float, nan, binary64, add, sub, mul, lt, le, is_nan}
 use lib.Ieee.Scale.{finite}
+use Rattle.std.specs.Float.{float_is_finite}
 use Rattle.float.specs.Rounding.{trunc_f, abs_f, to_integer_or_infinity, plus_zero}
 use Rattle.calendar.specs.Calendar.{num, day_f}
+use Rattle.float.proofs.Special.{finite_is}
 use Rattle.make.proofs.Finite.{summand-left, summand-right, factor, uncut}
 use Rattle.make.specs.Make.{whole_part, join_time, make_time_f, year_of_month, month_of_year, month_start_f, day_of_month_f, make_day_f, if_finite, make_date_f, full_year, make_full_year_f, time_clip_f}
 
@@ -13,12 +15,12 @@ and-false : (a : Bool) {b : Bool} → b ≡ false → (a && b) ≡ false
 and-false true e = e
 and-false false e = refl
 
--- the answer r of a test f, and a branch on `!r`
-pub off : {r f : Bool} → r ≡ f → r ≡ false → f ≡ false
-off e t = sym e ∙ t
+-- the answer r of `is_finite`, and a branch on `!r`
+pub off : (x : Float) {r : Bool} → r ≡ float_is_finite x → r ≡ false → finite x ≡ false
+off x e t = sym (finite_is x) ∙ sym e ∙ t
 
-pub on : {r f : Bool} → r ≡ f → r ≡ true → f ≡ true
-on e t = sym e ∙ t
+pub on : (x : Float) {r : Bool} → r ≡ float_is_finite x → r ≡ true → finite x ≡ true
+on x e t = sym (finite_is x) ∙ sym e ∙ t
 
 -- ---- MakeTime
 module _ (h m s ms : Float) where

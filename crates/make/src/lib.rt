@@ -9,13 +9,14 @@ ghost use Rattle.calendar.specs.Calendar.{num};
 ghost use Rattle.make.specs.Make.{whole_part, make_time_f, year_of_month, month_of_year, month_start_f, day_of_month_f, make_day_f, make_date_f, make_full_year_f, time_clip_f};
 
 use calendar::{MS_PER_DAY, MS_PER_HOUR, MS_PER_MINUTE, MS_PER_SECOND};
+use timevalue::TIME_RANGE;
 
 // 𝔽(! ToIntegerOrInfinity(x)), as the makers work it out, by the original's three steps; of a negative fraction it is -0. A whole number, as
 // nearly always, is its own whole part.
 fn whole_part(x: f64) -> f64
     ensures { result ≡ whole_part x }
 {
-    if float::is_whole_within(x, 9_007_199_254_740_992.0) {
+    if float::is_whole_within(x, float::EXACT_LIMIT) {
         return x;
     }
     float::copysign(float::floor(float::abs(x)), x)
@@ -32,15 +33,11 @@ pub fn make_time(hour: f64, min: f64, sec: f64, ms: f64) -> f64
     let milli = whole_part(ms);
     // 6. Return ((h × msPerHour + m × msPerMinute) + s × msPerSecond) + milli. A finite sum has only finite terms, so step 1 is left for any other.
     let sum = ((h * MS_PER_HOUR + m * MS_PER_MINUTE) + s * MS_PER_SECOND) + milli;
-    if float::is_finite(sum) {
+    if sum.is_finite() {
         return sum;
     }
     // 1. If hour is not finite, min is not finite, sec is not finite, or ms is not finite, return NaN.
-    if !float::is_finite(hour)
-        || !float::is_finite(min)
-        || !float::is_finite(sec)
-        || !float::is_finite(ms)
-    {
+    if !hour.is_finite() || !min.is_finite() || !sec.is_finite() || !ms.is_finite() {
         return f64::NAN;
     }
     sum
@@ -66,7 +63,7 @@ fn month_start(ym: f64, mn: u8) -> f64
     requires { mn < 12 }
     ensures { result ≡ month_start_f ym mn }
 {
-    let rest = if mn > 1 { 1.0 } else { 0.0 };
+    let rest = f64::from(mn > 1);
     let days = f64::from(calendar::days_before(false, u32::from(mn)));
     (calendar::day_from_year(ym + rest) - 365.0 * rest + days) * MS_PER_DAY
 }
@@ -79,7 +76,7 @@ fn day_of_month(y: f64, m: f64, dt: f64) -> f64
     // 5. Let ym be y + 𝔽(floor(ℝ(m) / 12)).
     let ym = year_of_month(y, m);
     // 6. If ym is not finite, return NaN.
-    if !float::is_finite(ym) {
+    if !ym.is_finite() {
         return f64::NAN;
     }
     // 7. Let mn be 𝔽(ℝ(m) modulo 12).
@@ -107,7 +104,7 @@ pub fn make_day(year: f64, month: f64, date: f64) -> f64
         return calendar::day_number(float::exact_i64(y), mn, float::exact_i64(dt)) as f64;
     }
     // 1. If year is not finite, month is not finite, or date is not finite, return NaN.
-    if !float::is_finite(year) || !float::is_finite(month) || !float::is_finite(date) {
+    if !year.is_finite() || !month.is_finite() || !date.is_finite() {
         return f64::NAN;
     }
     // 5. to 9.
@@ -121,7 +118,7 @@ pub fn make_date(day: f64, time: f64) -> f64
     // 2. Let tv be day × msPerDay + time.
     let tv = day * MS_PER_DAY + time;
     // 1. If day is not finite or time is not finite, return NaN. 3. If tv is not finite, return NaN. Of such a day or time tv is not finite.
-    if !float::is_finite(tv) {
+    if !tv.is_finite() {
         return f64::NAN;
     }
     // 4. Return tv.
@@ -151,21 +148,17 @@ pub fn time_clip(time: f64) -> f64
     ensures { result ≡ time_clip_f time }
 {
     // A whole time of the range that is not 0, as nearly always, is its own value.
-    if time != 0.0 && float::is_whole_within(time, 8_640_000_000_000_000.0) {
+    if time != 0.0 && float::is_whole_within(time, TIME_RANGE) {
         return time;
     }
     // 1. If time is not finite, return NaN.
-    if !float::is_finite(time) {
+    if !time.is_finite() {
         return f64::NAN;
     }
     // 2. If abs(ℝ(time)) > 8.64 × 10**15, return NaN.
-    if float::abs(time) > 8_640_000_000_000_000.0 {
+    if float::abs(time) > TIME_RANGE {
         return f64::NAN;
     }
     // 3. Return 𝔽(! ToIntegerOrInfinity(time)).
-    let whole = float::trunc(time);
-    if float::abs(whole) == 0.0 {
-        return 0.0;
-    }
-    whole
+    float::to_integer_or_infinity(time)
 }

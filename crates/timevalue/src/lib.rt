@@ -5,6 +5,9 @@
 ghost use Rattle.std.specs.Prelude.{◌≡◌};
 ghost use Rattle.timevalue.specs.TimeValue.{time_value_of};
 
+// The range: 100,000,000 days either way of 1970, in milliseconds.
+pub const TIME_RANGE: f64 = 8_640_000_000_000_000.0;
+
 #[derive(Clone, Copy)]
 pub enum TimeValue {
     // A whole number in the range, never -0.
@@ -22,12 +25,10 @@ pub fn time_value(bits: u64) -> Option<TimeValue>
     if x.is_nan() {
         return Some(TimeValue::Nan);
     }
-    if float::is_whole_within(x, 8_640_000_000_000_000.0) {
+    if float::is_whole_within(x, TIME_RANGE) {
         // -0 counts as 0. A sum with 0.0 would do, but not where the processor rounds down: there it is -0.
-        if float::abs(x) == 0.0 {
-            return Some(TimeValue::Time(0.0));
-        }
-        return Some(TimeValue::Time(x));
+        let time = if x == 0.0 { 0.0 } else { x };
+        return Some(TimeValue::Time(time));
     }
     None
 }

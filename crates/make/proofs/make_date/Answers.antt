@@ -8,10 +8,10 @@ pub returns-then-not-is_finite : goal.returns-then-not-is_finite
 unfolding of_bits of_int
 returns-then-not-is_finite c =
     let a = c.args in
-    sym (sum-not-finite a.day a.time (off c.is_finite.ensures c.if-not-is_finite.true))
+    sym (sum-not-finite a.day a.time (off _ c.is_finite.ensures.value c.if-not-is_finite.true))
 
 pub returns : goal.returns
 unfolding of_bits of_int
 returns c =
     let a = c.args in
-    sym (make-date-finite a.day a.time (on c.is_finite.ensures c.if-not-is_finite.false))
+    sym (make-date-finite a.day a.time (on _ c.is_finite.ensures.value c.if-not-is_finite.false))

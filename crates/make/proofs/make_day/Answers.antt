@@ -133,16 +133,16 @@ unfolding of_bits of_int
 returns-then-not-is_finite c =
     let a = c.args in
     sym (elim c.then-not-is_finite.branch [
-      | then-not-is_finite-via-then-not-is_finite w ↦ year-not-finite a.year a.month a.date (off c.is_finite.ensures w.if-not-is_finite.true)
+      | then-not-is_finite-via-then-not-is_finite w ↦ year-not-finite a.year a.month a.date (off _ c.is_finite.ensures.value w.if-not-is_finite.true)
       | then-not-is_finite-via-else-not-is_finite+then-not-is_finite-2 w ↦
-          month-not-finite a.year a.month a.date (off w.is_finite-else-not-is_finite.ensures w.if-not-is_finite-2.true)
+          month-not-finite a.year a.month a.date (off _ w.is_finite-else-not-is_finite.ensures.value w.if-not-is_finite-2.true)
       | then-not-is_finite-via-else-not-is_finite+else-not-is_finite-2+then-not-is_finite-3 w ↦
-          date-not-finite a.year a.month a.date (off w.is_finite-else-not-is_finite-2.ensures w.if-not-is_finite-3.true)
+          date-not-finite a.year a.month a.date (off _ w.is_finite-else-not-is_finite-2.ensures.value w.if-not-is_finite-3.true)
     ])
 
 -- ---- the steps in f64, of finite fields
 month-finite : (c : Else-not-is_finite-2) → finite c.args.month ≡ true
-month-finite c = on c.is_finite-else-not-is_finite.ensures c.if-not-is_finite-2.false
+month-finite c = on _ c.is_finite-else-not-is_finite.ensures.value c.if-not-is_finite-2.false
 
 pub day_of_month-requires : goal.day_of_month-requires
 day_of_month-requires c =
@@ -155,4 +155,4 @@ returns c =
     let a = c.args in
     c.day_of_month.ensures
     ∙ (λ i. day_of_month_f (year_of_month (c.whole_part-y.ensures i) (c.whole_part-m.ensures i)) (month_of_year (c.whole_part-m.ensures i)) (c.whole_part-dt.ensures i))
-    ∙ sym (make-day-finite a.year a.month a.date (on c.is_finite.ensures c.if-not-is_finite.false) (month-finite c.before.before.before) (on c.is_finite-else-not-is_finite-2.ensures c.if-not-is_finite-3.false))
+    ∙ sym (make-day-finite a.year a.month a.date (on _ c.is_finite.ensures.value c.if-not-is_finite.false) (month-finite c.before.before.before) (on _ c.is_finite-else-not-is_finite-2.ensures.value c.if-not-is_finite-3.false))

@@ -19,20 +19,20 @@ pub returns-then-is_finite : goal.returns-then-is_finite
 unfolding of_bits of_int
 returns-then-is_finite c =
     let a = c.args in
-    summed c.before.before ∙ sym (make-time-sum a.hour a.min a.sec a.ms (ap finite (sym (summed c.before.before)) ∙ sym c.is_finite.ensures ∙ c.if-is_finite.true))
+    summed c.before.before ∙ sym (make-time-sum a.hour a.min a.sec a.ms (ap finite (sym (summed c.before.before)) ∙ on _ c.is_finite.ensures.value c.if-is_finite.true))
 
 pub returns-then-not-is_finite : goal.returns-then-not-is_finite
 unfolding of_bits of_int
 returns-then-not-is_finite c =
     let a = c.args in
     sym (elim c.then-not-is_finite.branch [
-      | then-not-is_finite-via-then-not-is_finite w ↦ hour-not-finite a.hour a.min a.sec a.ms (off c.is_finite-2.ensures w.if-not-is_finite.true)
+      | then-not-is_finite-via-then-not-is_finite w ↦ hour-not-finite a.hour a.min a.sec a.ms (off _ c.is_finite-2.ensures.value w.if-not-is_finite.true)
       | then-not-is_finite-via-else-not-is_finite+then-not-is_finite-2 w ↦
-          minute-not-finite a.hour a.min a.sec a.ms (off w.is_finite-else-not-is_finite.ensures w.if-not-is_finite-2.true)
+          minute-not-finite a.hour a.min a.sec a.ms (off _ w.is_finite-else-not-is_finite.ensures.value w.if-not-is_finite-2.true)
       | then-not-is_finite-via-else-not-is_finite+else-not-is_finite-2+then-not-is_finite-3 w ↦
-          second-not-finite a.hour a.min a.sec a.ms (off w.is_finite-else-not-is_finite-2.ensures w.if-not-is_finite-3.true)
+          second-not-finite a.hour a.min a.sec a.ms (off _ w.is_finite-else-not-is_finite-2.ensures.value w.if-not-is_finite-3.true)
       | then-not-is_finite-via-else-not-is_finite+else-not-is_finite-2+else-not-is_finite-3+then-not-is_finite-4 w ↦
-          milli-not-finite a.hour a.min a.sec a.ms (off w.is_finite-else-not-is_finite-3.ensures w.if-not-is_finite-4.true)
+          milli-not-finite a.hour a.min a.sec a.ms (off _ w.is_finite-else-not-is_finite-3.ensures.value w.if-not-is_finite-4.true)
     ])
 
 pub returns : goal.returns
@@ -40,5 +40,5 @@ unfolding of_bits of_int
 returns c =
     let a = c.args in
     summed c.before.before.before.before.before.before.before.before.before.before
-    ∙ sym (make-time-finite a.hour a.min a.sec a.ms (on c.is_finite-2.ensures c.if-not-is_finite.false) (on c.is_finite-else-not-is_finite.ensures c.if-not-is_finite-2.false)
-    (on c.is_finite-else-not-is_finite-2.ensures c.if-not-is_finite-3.false) (on c.is_finite-else-not-is_finite-3.ensures c.if-not-is_finite-4.false))
+    ∙ sym (make-time-finite a.hour a.min a.sec a.ms (on _ c.is_finite-2.ensures.value c.if-not-is_finite.false) (on _ c.is_finite-else-not-is_finite.ensures.value c.if-not-is_finite-2.false)
+    (on _ c.is_finite-else-not-is_finite-2.ensures.value c.if-not-is_finite-3.false) (on _ c.is_finite-else-not-is_finite-3.ensures.value c.if-not-is_finite-4.false))

@@ -1,9 +1,8 @@
 -- `make::time_clip` meets its contract. Assumes nothing.
 use mathlib.Core.Path.{sym, ap, ◌∙◌}
-use mathlib.Core.Bool.{cond}
-use lib.Ieee.{binary64, fits, lt, eq, of_bits, of_int}
+use lib.Ieee.{binary64, fits, lt, of_bits, of_int}
 use Rattle.integers.proofs.Machine.{true-T}
-use Rattle.float.specs.Rounding.{trunc_f, abs_f}
+use Rattle.float.proofs.Integer.{integer-is}
 use Rattle.calendar.specs.Calendar.{num}
 use Rattle.make.proofs.Clip.{clip-own}
 use Rattle.make.proofs.Tests.{off, on, clip-not-finite, clip-beyond, clip-within}
@@ -18,25 +17,18 @@ returns-then-is_whole_within c =
 pub returns-then-not-is_finite : goal.returns-then-not-is_finite
 unfolding of_bits of_int
 returns-then-not-is_finite c =
-    sym (clip-not-finite c.args.time (off c.is_finite.ensures c.if-not-is_finite.true))
+    sym (clip-not-finite c.args.time (off _ c.is_finite.ensures.value c.if-not-is_finite.true))
 
 pub returns-then-abs : goal.returns-then-abs
 unfolding of_bits of_int
 returns-then-abs c =
     let t = c.args.time in
-    sym (clip-beyond t (on c.is_finite.ensures c.if-not-is_finite.false) (ap (lt (num 8640000000000000)) (sym c.abs.ensures) ∙ c.if-abs.true))
-
-pub returns-then-abs-2 : goal.returns-then-abs-2
-unfolding of_bits of_int
-returns-then-abs-2 c =
-    let t = c.args.time in
-    sym (clip-within t (on c.is_finite.ensures c.if-not-is_finite.false) (ap (lt (num 8640000000000000)) (sym c.abs.ensures) ∙ c.if-abs.false)
-    ∙ ap (λ b. cond b (num 0) (trunc_f t)) (ap (λ v. eq v (num 0)) (sym (c.abs-2.ensures ∙ ap abs_f c.trunc-whole.ensures)) ∙ c.if-abs-2.true))
+    sym (clip-beyond t (on _ c.is_finite.ensures.value c.if-not-is_finite.false) (ap (lt (num 8640000000000000)) (sym c.abs.ensures) ∙ c.if-abs.true))
 
 pub returns : goal.returns
 unfolding of_bits of_int
 returns c =
     let t = c.args.time in
-    c.trunc-whole.ensures
-    ∙ sym (clip-within t (on c.is_finite.ensures c.if-not-is_finite.false) (ap (lt (num 8640000000000000)) (sym c.abs.ensures) ∙ c.if-abs.false)
-    ∙ ap (λ b. cond b (num 0) (trunc_f t)) (ap (λ v. eq v (num 0)) (sym (c.abs-2.ensures ∙ ap abs_f c.trunc-whole.ensures)) ∙ c.if-abs-2.false))
+    let finite = on _ c.is_finite.ensures.value c.if-not-is_finite.false in
+    c.to_integer_or_infinity.ensures ∙ integer-is t (true-T (fits binary64 t) c.well_formed.0.1) (true-T _ finite)
+    ∙ sym (clip-within t finite (ap (lt (num 8640000000000000)) (sym c.abs.ensures) ∙ c.if-abs.false))

@@ -5,10 +5,11 @@ use lib.IntN.{pos}
 use lib.Ieee.{Float, binary64, eq, is_nan, of_bits, of_int}
 use Rattle.std.specs.Prelude.{Some, None}
 use Rattle.float.specs.Rounding.{abs_f}
+use Rattle.float.proofs.Integer.{abs-zero-test}
 use Rattle.timevalue.specs.declared.TimeValue.TheVariants.{Time}
 use Rattle.timevalue.specs.TimeValue.{is_time, judged, time_value_of}
 use Rattle.timevalue.proofs.time_value.Goals as goal
-use Rattle.timevalue.proofs.time_value.Goals.{After-abs, After-is_whole_within}
+use Rattle.timevalue.proofs.time_value.Goals.{After-is_whole_within}
 
 -- ---- the answers, by the tests, of the value x of some bits that is no NaN
 module _ (x : Float) (n : is_nan x ≡ false) where
@@ -29,20 +30,21 @@ test : (c : After-is_whole_within) {b : Bool} → c.is_whole_within.result ≡ b
 unfolding is_time of_bits of_int
 test c e = sym c.is_whole_within.ensures ∙ e
 
-zero_test : (c : After-abs) {b : Bool} → eq c.abs.result (of_int binary64 (pos 0)) ≡ b → eq (abs_f c.of_bits-x.result) (of_int binary64 (pos 0)) ≡ b
-zero_test c e = ap (λ x. eq x (of_int binary64 (pos 0))) (sym c.abs.ensures) ∙ e
+zero_test : (x : Float) {b : Bool} → eq x (of_bits binary64 0) ≡ b → eq (abs_f x) (of_int binary64 (pos 0)) ≡ b
+unfolding of_bits of_int
+zero_test x e = abs-zero-test x ∙ e
 
-pub returns-then-abs : goal.returns-then-abs
+pub returns-then-x : goal.returns-then-x
 unfolding time_value_of of_bits of_int
-returns-then-abs c =
-    let tested = c.before.before.before in
-    judged-zero _ (number tested) (test tested c.if-is_whole_within.true) (zero_test c.before c.if-abs.true) ∙ ap judged c.of_bits-x.ensures
+returns-then-x c =
+    let tested = c.before.before in
+    judged-zero _ (number tested) (test tested c.if-is_whole_within.true) (zero_test _ c.if-x.true) ∙ ap judged c.of_bits-x.ensures
 
-pub returns-then-is_whole_within : goal.returns-then-is_whole_within
+pub returns-else-x : goal.returns-else-x
 unfolding time_value_of of_bits of_int
-returns-then-is_whole_within c =
-    let tested = c.before.before.before in
-    judged-time _ (number tested) (test tested c.if-is_whole_within.true) (zero_test c.before c.if-abs.false) ∙ ap judged c.of_bits-x.ensures
+returns-else-x c =
+    let tested = c.before.before in
+    judged-time _ (number tested) (test tested c.if-is_whole_within.true) (zero_test _ c.if-x.false) ∙ ap judged c.of_bits-x.ensures
 
 pub returns : goal.returns
 unfolding time_value_of
