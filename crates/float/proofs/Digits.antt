@@ -141,32 +141,26 @@ leading-room n P N =
     let e : suc j + z ≡ 64 = omega (arith, top.1) in
     (omega (arith, top.1), omega (arith, top.1), λ r R. subst (λ (x : ℕ). r * 2 ^ z < 2 ^ x) e (shl_lt {a = r} (suc j) z (lt_trans R top.3)))
 
--- q is shifted by a, and then by b
-shifted_twice : (q a b k r n : ℕ) → a + b ≡ k → r ≡ q * 2 ^ a % n → r * 2 ^ b % n ≡ q * 2 ^ k % n
-shifted_twice q a b k r n e is =
-    ap (λ (x : ℕ). x * 2 ^ b % n) is ∙ mod_times (q * 2 ^ a) (2 ^ b) n
-    ∙ ap (λ (x : ℕ). x % n) (mul_assoc q (2 ^ a) (2 ^ b) ∙ ap (λ (x : ℕ). q * x) (sym (pow-add 2 a b) ∙ ap (λ (x : ℕ). 2 ^ x) e))
+pub step : (r s k n : ℕ) → s < k → r * 2 ^ s % n * 2 ^ (k - s) % n ≡ r * 2 ^ k % n
+step r s k n h =
+    mod_times (r * 2 ^ s) (2 ^ (k - s)) n
+    ∙ ap (λ (x : ℕ). x % n) (mul_assoc r (2 ^ s) (2 ^ (k - s)) ∙ ap (λ (x : ℕ). r * x) (sym (pow-add 2 s (k - s)) ∙ ap (λ (x : ℕ). 2 ^ x) (rejoin s k h)))
+  where
+    rejoin : (s k : ℕ) → s < k → s + (k - s) ≡ k
+    rejoin s k h = omega arith
 
 -- the same as `shifted_rem` finds it: s is the room above n
-module _ (n : ℕ) (N : n < 2 ^ 53) where
-  pub room_some : 0 < n → 0 < count_leading_zeros 64 n
-  room_some P = (leading-room n P N).0
+pub room_some : (n : ℕ) → 0 < n → n < 2 ^ 53 → 0 < count_leading_zeros 64 n
+room_some n P N = (leading-room n P N).0
 
-  pub rest_fits : (d : ℕ) → 0 < n → d % count_leading_zeros 64 n < 64
-  rest_fits d P = let z = leading-room n P N in lt_trans (mod-lt d z.0) z.1
+pub stepped : (r s k n : ℕ) → r < n → n < 2 ^ 53 → s ≡ count_leading_zeros 64 n → s < k → r * 2 ^ s % 18446744073709551616 % n * 2 ^ (k - s) % n ≡ r * 2 ^ k % n
+stepped r s k n R N is l =
+    let fits : r * 2 ^ s < 2 ^ 64 = rw is ((leading-room n (omega arith) N).2 r R) in
+    ap (λ (x : ℕ). x % n * 2 ^ (k - s) % n) (mod-eq_of_lt fits) ∙ step r s k n l
 
-  module _ (q r s : ℕ) (room : s ≡ count_leading_zeros 64 n) (R : r < n) where
-    fits_below : (k : ℕ) → k ≤ s → r * 2 ^ k % 18446744073709551616 ≡ r * 2 ^ k
-    fits_below k l =
-        mod-eq_of_lt (lt_of_le_of_lt (mul-le-mul_left r (pow_mono (subst (λ (z : ℕ). k ≤ z) room l))) ((leading-room n (omega arith) N).2 r R))
-
-    pub turned : (i : ℕ) → r ≡ q * 2 ^ (s * i) % n → r * 2 ^ s % 18446744073709551616 % n ≡ q * 2 ^ (s * (i + 1)) % n
-    turned i is = ap (λ (x : ℕ). x % n) (fits_below s (omega arith)) ∙ shifted_twice q (s * i) s (s * (i + 1)) r n (omega arith) is
-
-    pub finished : (d i : ℕ) → i ≡ d / s → r ≡ q * 2 ^ (s * i) % n → r * 2 ^ (d % s) % 18446744073709551616 % n ≡ q * 2 ^ d % n
-    finished d i e is =
-        let P : 0 < s = rw room (room_some (omega arith)) in
-        ap (λ (x : ℕ). x % n) (fits_below (d % s) (omega (arith, mod-lt d P))) ∙ shifted_twice q (s * i) (d % s) d r n (rw e (ap (λ (x : ℕ). x + d % s) (mul_comm s (d / s)) ∙ div-add-mod' d s)) is
+pub finished : (r k n : ℕ) → r < n → n < 2 ^ 53 → k ≤ count_leading_zeros 64 n → r * 2 ^ k % 18446744073709551616 % n ≡ r * 2 ^ k % n
+finished r k n R N l =
+    ap (λ (x : ℕ). x % n) (mod-eq_of_lt (lt_of_le_of_lt (mul-le-mul_left r (pow_mono l)) ((leading-room n (omega arith) N).2 r R)))
 
 -- ---- zeros at the end
 

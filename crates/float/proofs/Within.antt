@@ -8,7 +8,7 @@ use lib.Ieee.{Float, nan, inf, fin, binary64, up, down, level, of_int, of_bits, 
 use lib.Ieee.Bits.{is_true, to_bits-of_bits}
 use lib.Ieee.Fits.{eq→eqb, and_l, and_r, down_pos, of_int-fits}
 use Rattle.integers.proofs.Int.{ints}
-use Rattle.integers.proofs.Machine.{true-T}
+use Rattle.integers.proofs.Machine.{true-T, false-T}
 use Rattle.float.specs.Whole.{signed, IsWhole, WholeWithin}
 use Rattle.float.specs.Rounding.{trunc_f, abs_f, is_whole_within, plus_zero}
 use Rattle.float.proofs.Fractions.{same_test}
@@ -16,7 +16,7 @@ use Rattle.float.proofs.Patterns.{bits_back}
 use Rattle.float.proofs.Whole.{of_int-whole, unique, zero-factor, zero-signed}
 use Rattle.float.proofs.Rounding.{trunc-whole, trunc-own, abs-whole, whole-finite}
 use Rattle.float.proofs.Order.{eq_yes, eq_no, eq-holds, le_yes, le-holds}
-use Rattle.float.proofs.Special.{nan-test, eq-nan-right}
+use Rattle.float.proofs.Special.{nan-test, nan-only, eq-nan-right}
 
 -- ---- what equals a whole number is that number, -0 too
 -- M / E is the whole number S, and M / E = N / D
@@ -53,13 +53,6 @@ same_whole (fin s m e) (fin u n d) {z} w t =
     null M E D S p q v h = zero-factor S E p (sym v ∙ mul-one M ∙ zero-factor M D q h)
 
 -- ---- the tests on patterns
--- what has a magnitude that is no larger than some number is no NaN
-bounded : (x y : Float) → le (abs_f x) y ≡ true → T (not (is_nan x))
-unfolding le lt eq abs_f is_nan
-bounded nan y t = absurd (false≢true t)
-bounded (inf s) y t = tt
-bounded (fin s m e) y t = tt
-
 equals_itself : (x : Float) → T (not (is_nan x)) → T (eq x x)
 unfolding ne
 equals_itself x n = go (eq x x) (subst (λ (b : Bool). T (not b)) (sym (nan-test x)) n)
@@ -83,20 +76,23 @@ same-bits x r h n l e =
 
 -- the same as `is_whole_within` finds it: m is x's magnitude
 module _ (x most m : Float) where
-  pub bounded_number : le m most ≡ true → m ≡ abs_f x → T (not (is_nan x))
-  bounded_number t is = bounded x most (ap (λ (y : Float). le y most) (sym is) ∙ t)
-
   pub unbounded : le m most ≡ false → m ≡ abs_f x → false ≡ is_whole_within most x
   unfolding is_whole_within
   unbounded t is = let own = eq (trunc_f x) x in sym (ap (λ (b : Bool). own && b) (ap (λ (y : Float). le y most) (sym is) ∙ t) ∙ and-false own)
 
-  pub same_pattern : (r : ℕ) → le m most ≡ true → m ≡ abs_f x → of_bits binary64 r ≡ trunc_f (of_bits binary64 (to_bits binary64 x)) → r < 2 ^ 64 → fits binary64 x ≡ true
+  pub same_pattern : (r : ℕ) → le m most ≡ true → m ≡ abs_f x → of_bits binary64 r ≡ trunc_f (of_bits binary64 (to_bits binary64 x)) → r < 2 ^ 64 → fits binary64 x ≡ true → is_nan x ≡ false
       → eqb r (to_bits binary64 x) ≡ is_whole_within most x
   unfolding is_whole_within
-  same_pattern r t is e l held =
+  same_pattern r t is e l held n =
       let h = true-T _ held in
       let own = eq (trunc_f x) x in
-      same-bits x r h (bounded_number t is) l (e ∙ ap trunc_f (bits_back x h)) ∙ sym (ap (λ (b : Bool). own && b) (ap (λ (y : Float). le y most) (sym is) ∙ t) ∙ and-true own)
+      same-bits x r h (false-T _ n) l (e ∙ ap trunc_f (bits_back x h)) ∙ sym (ap (λ (b : Bool). own && b) (ap (λ (y : Float). le y most) (sym is) ∙ t) ∙ and-true own)
+
+pub not_whole : (x most : Float) → is_nan x ≡ true → false ≡ is_whole_within most x
+unfolding is_whole_within
+not_whole x most t =
+    let e : x ≡ nan = nan-only x t in
+    sym (ap (λ (y : Float). eq (trunc_f x) y && le (abs_f x) most) e ∙ ap (λ (b : Bool). b && le (abs_f x) most) (eq-nan-right (trunc_f x)))
 
 -- ---- the test is the record, both ways
 both : (a b : Bool) → (a && b) ≡ true → (a ≡ true) × (b ≡ true)

@@ -208,20 +208,22 @@ fn low_zeros(n: u64, d: u64) -> u64
 }
 
 // q * 2 ^ d % n, as many bits at a time as n leaves above it.
-#[tactic(auto, using(crate::proofs::Digits::room_some, crate::proofs::Digits::rest_fits, crate::proofs::Digits::turned, crate::proofs::Digits::finished))]
+#[tactic(auto, using(crate::proofs::Digits::room_some, crate::proofs::Digits::stepped, crate::proofs::Digits::finished))]
 fn shifted_rem(q: u64, d: u64, n: u64) -> u64
     requires { (q < n) × (n < 2 ^ 53) }
     ensures { result ≡ q * 2 ^ d % n }
 {
-    if d == 0 {
-        return q;
-    }
     let s = u64::from(n.leading_zeros());
     let mut r = q;
-    for _ in 0..d / s {
+    let mut k = d;
+    while s < k {
         r = (r << s) % n;
+        k -= s;
     }
-    (r << (d % s)) % n
+    if k == 0 {
+        return r;
+    }
+    (r << k) % n
 }
 
 // The pattern of the remainder of a's value by b's, for two finite ones and a b that is not zero. It has a's sign.
@@ -246,6 +248,7 @@ fn rem_bits(a: u64, b: u64) -> u64
 
 // Rust's `x % y`, for every two, without the C library's fmod.
 #[tactic(auto, using(crate::proofs::Digits::of_nan, crate::proofs::Digits::by_nan, crate::proofs::Digits::of_infinity, crate::proofs::Digits::by_zero, crate::proofs::Digits::by_infinity, crate::proofs::Digits::finite_field, crate::proofs::Digits::some_digits, crate::proofs::Digits::of_two))]
+#[inline]
 fn remainder(x: f64, y: f64) -> f64
     ensures { result ≡ rem binary64 x y }
 {
@@ -266,6 +269,7 @@ fn remainder(x: f64, y: f64) -> f64
 
 // Rust's `rem_euclid`: x % y, and |y| more, rounded once, where that is below zero. A multiple of y below zero gives -0.0.
 #[tactic(auto, unfolding(crate::specs::Rounding::rem_euclid_f))]
+#[inline]
 pub fn rem_euclid(x: f64, y: f64) -> f64
     ensures { result ≡ rem_euclid_f x y }
 {
@@ -279,12 +283,16 @@ pub fn rem_euclid(x: f64, y: f64) -> f64
 // 2^53: a whole number to there, either way, is an f64.
 pub const EXACT_LIMIT: f64 = 9_007_199_254_740_992.0;
 
-// Whether x is a whole number, and no larger than `most` either way. No NaN passes the first test; of a number the pattern is that of its whole part.
-#[tactic(auto, using(crate::proofs::Within::unbounded))]
+// Whether x is a whole number, and no larger than `most` either way. No NaN is; of any other the pattern is that of its whole part.
+#[tactic(auto, using(crate::proofs::Within::not_whole, crate::proofs::Within::unbounded))]
 pub fn is_whole_within(x: f64, most: f64) -> bool
     ensures { result ≡ is_whole_within most x }
 {
-    abs(x) <= most && trunc_bits(x.to_bits()) == x.to_bits()
+    if x.is_nan() {
+        return false;
+    }
+    let b = x.to_bits();
+    abs(x) <= most && trunc_bits(b) == b
 }
 
 // A whole number as an integer. A sum with 0.0 is never -0, which the cast does not take.
