@@ -346,7 +346,8 @@ pub struct Clock {
     pub ms: u16,
 }
 
-// HourFromTime(t), MinFromTime(t) and SecFromTime(t), by the unit's milliseconds and how many units make the next larger one.
+// HourFromTime(t), MinFromTime(t) and SecFromTime(t), by the unit's milliseconds and how many units make the next larger one. Inlined, so that
+// both divisors are written out.
 #[inline(always)]
 fn clock_field(t: f64, unit: f64, count: f64) -> u8
     ensures { result ≡ to_unsigned 8 (rem_euclid_f (floor_f (div binary64 t unit)) count) }

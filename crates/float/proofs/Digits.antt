@@ -20,7 +20,7 @@ use Rattle.float.proofs.Rounding.{round-signed}
 use Rattle.float.proofs.Ops.{mod-scale}
 use Rattle.float.proofs.Special.{nan-only}
 use Rattle.float.proofs.Whole.{zero-factor}
-use Rattle.std.specs.Float.{float_is_infinite}
+use Rattle.std.specs.Float.{float_is_finite, float_is_infinite}
 use Rattle.float.proofs.Patterns.{pat, read, sign_bit, Fields, fields, digits_of, signed, bits_back, bits-lt, no_nan}
 use Rattle.float.proofs.Clearing.{fields-val, lead-lt, place-le, split, units_number}
 
@@ -400,16 +400,14 @@ rem-by-nan nan = refl
 rem-by-nan (inf s) = refl
 rem-by-nan (fin s m e) = refl
 
-pub of_nan : (x y : Float) → is_nan x ≡ true → x ≡ rem binary64 x y
-unfolding rem
-of_nan x y n = subst (λ (v : Float). v ≡ rem binary64 v y) (sym (nan-only x n)) refl
+pub by_nan : (x y : Float) → is_nan y ≡ true → of_bits binary64 9221120237041090560 ≡ rem binary64 x y
+by_nan x y n = the-nan ∙ subst (λ (v : Float). nan ≡ rem binary64 x v) (sym (nan-only y n)) (sym (rem-by-nan x))
 
-pub by_nan : (x y : Float) → is_nan y ≡ true → y ≡ rem binary64 x y
-by_nan x y n = subst (λ (v : Float). v ≡ rem binary64 x v) (sym (nan-only y n)) (sym (rem-by-nan x))
-
-rem-of-inf : (s : Bool) (y : Float) → rem binary64 (inf s) y ≡ nan
-unfolding rem
-rem-of-inf s y = refl
+pub not_finite : (x y : Float) → float_is_finite x ≡ false → of_bits binary64 9221120237041090560 ≡ rem binary64 x y
+unfolding rem float_is_finite
+not_finite nan y f = the-nan
+not_finite (inf s) y f = the-nan
+not_finite (fin s m e) y f = absurd (true≢false f)
 
 rem-by-zero : (x y : Float) → eq y (of_bits binary64 0) ≡ true → rem binary64 x y ≡ nan
 unfolding rem eq of_bits
@@ -424,11 +422,11 @@ rem-by-zero (fin t m d) (fin s n g) e =
     let z : n ≡ 0 = zero-factor n (up g) (up_pos g) (sym (mul-one (n * up g)) ∙ v ∙ zero-mul (down g)) in
     ap (λ (i : ℕ). cond (eqb i 0) nan (round binary64 t (m * up d * down g % (i * up g * down d)) (down d * down g))) z
 
-rem-by-inf : (x : Float) (s : Bool) → is_nan x ≡ false → float_is_infinite x ≡ false → rem binary64 x (inf s) ≡ x
-unfolding rem is_nan float_is_infinite
-rem-by-inf nan s n h = absurd (true≢false n)
-rem-by-inf (inf t) s n h = absurd (true≢false h)
-rem-by-inf (fin t m e) s n h = refl
+rem-by-inf : (x : Float) (s : Bool) → float_is_finite x ≡ true → rem binary64 x (inf s) ≡ x
+unfolding rem float_is_finite
+rem-by-inf nan s f = absurd (false≢true f)
+rem-by-inf (inf t) s f = absurd (false≢true f)
+rem-by-inf (fin t m e) s f = refl
 
 -- std's word for an infinity
 infinite : (x : Float) → float_is_infinite x ≡ true → (s : Bool) × (x ≡ inf s)
@@ -440,6 +438,12 @@ infinite (fin s m d) e = absurd (false≢true e)
 inf-infinite : (s : Bool) → float_is_infinite (inf s) ≡ true
 unfolding float_is_infinite
 inf-infinite s = refl
+
+no-other : (x : Float) → float_is_finite x ≡ true → (is_nan x ≡ false) × (float_is_infinite x ≡ false)
+unfolding is_nan float_is_finite float_is_infinite
+no-other nan f = absurd (false≢true f)
+no-other (inf s) f = absurd (false≢true f)
+no-other (fin s m e) f = (refl, refl)
 
 zero-level : (s : Bool) → eq (fin s 0 (pos 0)) (of_bits binary64 0) ≡ true
 unfolding eq of_bits
@@ -487,28 +491,28 @@ module _ (x : Float) (held : fits binary64 x ≡ true) where
       λ e. let i = is-inf x (true-T _ held) (false-T _ n) e in true≢false (sym (ap float_is_infinite i.1 ∙ inf-infinite i.0) ∙ f) in
       omega (arith, no)
 
+  pub field_below : float_is_finite x ≡ true → to_bits binary64 x / 2 ^ 52 % 2 ^ 11 < 2047
+  field_below f = let o = no-other x f in finite_field o.0 o.1
+
   pub some_digits : eq x (of_bits binary64 0) ≡ false → 0 < to_bits binary64 x % 2 ^ 63
   some_digits e =
       let no : to_bits binary64 x % 2 ^ 63 ≡ 0 → ⊥ =
       λ z. let i = is_zero x (true-T _ held) z in true≢false (sym (ap (λ (v : Float). eq v (of_bits binary64 0)) i.1 ∙ zero-level i.0) ∙ e) in
       omega (arith, no)
 
-pub of_infinity : (x y : Float) → float_is_infinite x ≡ true → of_bits binary64 9221120237041090560 ≡ rem binary64 x y
-of_infinity x y f = let i = infinite x f in the-nan ∙ sym (ap (λ (v : Float). rem binary64 v y) i.1 ∙ rem-of-inf i.0 y)
-
 pub by_zero : (x y : Float) → eq y (of_bits binary64 0) ≡ true → of_bits binary64 9221120237041090560 ≡ rem binary64 x y
 by_zero x y e = the-nan ∙ sym (rem-by-zero x y e)
 
-pub by_infinity : (x y : Float) → is_nan x ≡ false → float_is_infinite x ≡ false → float_is_infinite y ≡ true → x ≡ rem binary64 x y
-by_infinity x y n h f = let i = infinite y f in sym (ap (rem binary64 x) i.1 ∙ rem-by-inf x i.0 n h)
+pub by_infinity : (x y : Float) → float_is_finite x ≡ true → float_is_infinite y ≡ true → x ≡ rem binary64 x y
+by_infinity x y h f = let i = infinite y f in sym (ap (rem binary64 x) i.1 ∙ rem-by-inf x i.0 h)
 
 -- r is the pattern that `rem_bits` gives of two finite numbers
 module _ (r : ℕ) (x y : Float) (e : of_bits binary64 r ≡ rem binary64 (of_bits binary64 (to_bits binary64 x)) (of_bits binary64 (to_bits binary64 y))) (hx : fits binary64 x ≡ true) (hy : fits binary64 y ≡ true) where
   pub of_two : of_bits binary64 r ≡ rem binary64 x y
   of_two = e ∙ ap₂ (rem binary64) (bits_back x (true-T _ hx)) (bits_back y (true-T _ hy))
 
-  pub no_nan_made : is_nan x ≡ false → is_nan y ≡ false → float_is_infinite x ≡ false → eq y (of_bits binary64 0) ≡ false → float_is_infinite y ≡ false → T (not (nan_bits binary64 r))
-  no_nan_made nx ny fx some fy =
+  pub no_nan_made : float_is_finite x ≡ true → is_nan y ≡ false → eq y (of_bits binary64 0) ≡ false → float_is_infinite y ≡ false → T (not (nan_bits binary64 r))
+  no_nan_made fx ny some fy =
       no_nan r _ e
-      (subst (λ (v : Float). T (not (is_nan v))) (sym (rem_is (to_bits binary64 x) (to_bits binary64 y) (bits-lt x (true-T _ hx)) (bits-lt y (true-T _ hy)) (finite_field x hx nx fx) (finite_field y hy ny fy) (some_digits y hy some)))
+      (subst (λ (v : Float). T (not (is_nan v))) (sym (rem_is (to_bits binary64 x) (to_bits binary64 y) (bits-lt x (true-T _ hx)) (bits-lt y (true-T _ hy)) (field_below x hx fx) (finite_field y hy ny fy) (some_digits y hy some)))
       (round_number _ _ (2 ^ 1074)))

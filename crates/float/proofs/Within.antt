@@ -4,7 +4,7 @@ use Rattle.std.proofs.Common.{◌≡◌, ℕ, zero, suc, ◌*◌, ◌^◌, ◌<�
 use mathlib.Core.Bool.{beq, false≢true, and-true, and-false}
 use native.Mathlib.Nat.{eq_of_mul-eq-mul_right}
 use lib.Signed.{le_z_yes}
-use lib.Ieee.{Float, nan, inf, fin, binary64, up, down, level, of_int, of_bits, to_bits, is_nan, lt, eq, le, ne, fits}
+use lib.Ieee.{Float, nan, inf, fin, binary64, up, down, level, of_int, of_bits, to_bits, is_nan, eq, le, ne, fits}
 use lib.Ieee.Bits.{is_true, to_bits-of_bits}
 use lib.Ieee.Fits.{eq→eqb, and_l, and_r, down_pos, of_int-fits}
 use Rattle.integers.proofs.Int.{ints}

@@ -246,19 +246,13 @@ fn rem_bits(a: u64, b: u64) -> u64
     join_sign(a, units_bits(shifted_rem(m % w, d - c, w), j + c))
 }
 
-// Rust's `x % y`, for every two, without the C library's fmod.
-#[tactic(auto, using(crate::proofs::Digits::of_nan, crate::proofs::Digits::by_nan, crate::proofs::Digits::of_infinity, crate::proofs::Digits::by_zero, crate::proofs::Digits::by_infinity, crate::proofs::Digits::finite_field, crate::proofs::Digits::some_digits, crate::proofs::Digits::of_two))]
+// Rust's `x % y`, for every two, without the C library's fmod. Inlined: where y is written out, its digits are known.
+#[tactic(auto, using(crate::proofs::Digits::not_finite, crate::proofs::Digits::by_nan, crate::proofs::Digits::by_zero, crate::proofs::Digits::by_infinity, crate::proofs::Digits::finite_field, crate::proofs::Digits::some_digits, crate::proofs::Digits::field_below, crate::proofs::Digits::of_two))]
 #[inline]
 fn remainder(x: f64, y: f64) -> f64
     ensures { result ≡ rem binary64 x y }
 {
-    if x.is_nan() {
-        return x;
-    }
-    if y.is_nan() {
-        return y;
-    }
-    if x.is_infinite() || y == 0.0 {
+    if !x.is_finite() || y.is_nan() || y == 0.0 {
         return f64::NAN;
     }
     if y.is_infinite() {
@@ -267,7 +261,8 @@ fn remainder(x: f64, y: f64) -> f64
     f64::from_bits(rem_bits(x.to_bits(), y.to_bits()))
 }
 
-// Rust's `rem_euclid`: x % y, and |y| more, rounded once, where that is below zero. A multiple of y below zero gives -0.0.
+// Rust's `rem_euclid`: x % y, and |y| more, rounded once, where that is below zero. A multiple of y below zero gives -0.0. Inlined as
+// `remainder` is.
 #[tactic(auto, unfolding(crate::specs::Rounding::rem_euclid_f))]
 #[inline]
 pub fn rem_euclid(x: f64, y: f64) -> f64
