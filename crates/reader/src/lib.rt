@@ -129,7 +129,7 @@ impl FieldsTime {
         requires { (hour ≤ 23) × (minute ≤ 59) }
         ensures { result ≡ less_written negative hour minute self.ms }
     {
-        let offset = i64::from(3_600_000 * hour + 60_000 * minute);
+        let offset = i64::from(clock(Time::ToMinute { hour, minute }));
         if negative {
             self.ms + offset
         } else {
