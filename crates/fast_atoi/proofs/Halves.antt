@@ -36,16 +36,16 @@ module _ (K a1 a0 b1 b0 : ℕ) where
 pub below : (K : ℕ) {a b : ℕ} → a < K → b < K → a * b < K * K
 below K {a} {b} ha hb = lt_of_le_of_lt (mul-le-mul_left a (le_of_lt hb)) (mul-lt-mul_of_pos_right ha (omega arith))
 
--- the same as `wrapping_mul_u64` computes it: K is 2^32
+-- where K is 2^32, as in `wrapping_mul_u64`
 pub halves_fit : (a b : ℕ) → a < 4294967296 → b < 4294967296 → a * b < 18446744073709551616
 halves_fit a b ha hb = below 4294967296 ha hb
 
-pub product : (a b : ℕ)
-    → (a % 4294967296 * (b % 4294967296) + (a / 4294967296 * (b % 4294967296) + a % 4294967296 * (b / 4294967296)) % 18446744073709551616 % 4294967296 * 4294967296) % 18446744073709551616
-    ≡ a * b % 18446744073709551616
-product a b =
-    let h = halves 4294967296 (a / 4294967296) (a % 4294967296) (b / 4294967296) (b % 4294967296) in
-    sym (rw (div-add-mod' a 4294967296, div-add-mod' b 4294967296) at h)
+-- the product of two numbers from their halves, modulo M, which is K * K
+pub product : (K M a b : ℕ) → M ≡ K * K
+    → (a % K * (b % K) + (a / K * (b % K) + a % K * (b / K)) % M % K * K) % M ≡ a * b % M
+product K M a b e =
+    let h = halves K (a / K) (a % K) (b / K) (b % K) in
+    rw e (sym (rw (div-add-mod' a K, div-add-mod' b K) at h))
 
 -- the low 32 bits of the low 64 are those of the whole
 pub lower : (n : ℕ) → n % 18446744073709551616 % 4294967296 ≡ n % 4294967296

@@ -5,17 +5,20 @@
 ghost use Rattle.std.specs.Prelude.{◌≡◌, ◌-◌, ◌*◌, ◌%◌, ◌^◌, ◌<◌, ◌≤◌};
 ghost use Rattle.fast_atoi.specs.Inner.{moved, join4, join8};
 
+// 2^32, the number of values of a half of 64 bits.
+const HALF: u64 = 4_294_967_296;
+
 // The low 64 bits of the product, "built on halves and wrapping add".
 #[tactic(auto, using(crate::proofs::Halves::product, crate::proofs::Halves::halves_fit))]
 pub fn wrapping_mul_u64(a: u64, b: u64) -> u64
     ensures { result ≡ a * b % 2 ^ 64 }
 {
-    let a1 = a / 4294967296;
-    let a0 = a % 4294967296;
-    let b1 = b / 4294967296;
-    let b0 = b % 4294967296;
+    let a1 = a / HALF;
+    let a0 = a % HALF;
+    let b1 = b / HALF;
+    let b0 = b % HALF;
     let cross = (a1 * b0).wrapping_add(a0 * b1);
-    (a0 * b0).wrapping_add(cross % 4294967296 * 4294967296)
+    (a0 * b0).wrapping_add(cross % HALF * HALF)
 }
 
 // The low 32 bits of the product: those of the product of 64.
@@ -23,7 +26,7 @@ pub fn wrapping_mul_u64(a: u64, b: u64) -> u64
 pub fn wrapping_mul_u32(a: u32, b: u32) -> u32
     ensures { result ≡ a * b % 2 ^ 32 }
 {
-    (wrapping_mul_u64(u64::from(a), u64::from(b)) % 4294967296) as u32
+    (wrapping_mul_u64(u64::from(a), u64::from(b)) % HALF) as u32
 }
 
 // Up to four digits, moved up to the top of the block. A shift by the whole width, for no digits, is not defined in Rust either; a `len`

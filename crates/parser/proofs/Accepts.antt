@@ -16,27 +16,28 @@ use Rattle.ecma262.specs.Format.Time.{toSecond, toDecimals}
 use Rattle.ecma262.specs.Format.Zone.{absent, zulu, toHour}
 use Rattle.ecma262.specs.Format.Form.{date, timed}
 use Rattle.parser.specs.declared.Fault.TheVariants.{Range}
-use Rattle.parser.specs.Inner.{hour_allowed}
 use Rattle.parser.specs.Reading.{ok, fault, after, read_year, read_date, read_time, read_zone, time_allowed, after_date, ending, time_part, rest, read}
 use Rattle.parser.proofs.Stages.{on-after, Clock, year-read, date-read, time-read, zone-read, year-written, date-written, time-written, zone-written, zone-start}
 
 -- ---- hour 24
 
-midnight-read : (h m s ms : ℕ) → hour_allowed h m s ms ≡ true → h ≡ 24 → (m ≡ 0) × (s ≡ 0) × (ms ≡ 0)
-midnight-read h m s ms e q = go (eqb m 0) (eqb s 0) (eqb ms 0) refl refl refl (simp (eq-eqb h 24 q) at e)
-  where
-    go : (x y z : Bool) → eqb m 0 ≡ x → eqb s 0 ≡ y → eqb ms 0 ≡ z → cond x (cond y z false) false ≡ true → (m ≡ 0) × (s ≡ 0) × (ms ≡ 0)
-    go true true true a b c e = (eqb-true m 0 a, eqb-true s 0 b, eqb-true ms 0 c)
-    go true true false a b c e = cc
-    go true false z a b c e = cc
-    go false y z a b c e = cc
+module _ (t : Time) where
+  midnight-read : time_allowed t ≡ true → (time_fields t).hour ≡ 24 → ((time_fields t).minute ≡ 0) × ((time_fields t).second ≡ 0) × ((time_fields t).ms ≡ 0)
+  midnight-read e q = go (eqb (time_fields t).minute 0) (eqb (time_fields t).second 0) (eqb (time_fields t).ms 0) refl refl refl (simp (eq-eqb (time_fields t).hour 24 q) at e)
+    where
+      go : (x y z : Bool) → eqb (time_fields t).minute 0 ≡ x → eqb (time_fields t).second 0 ≡ y → eqb (time_fields t).ms 0 ≡ z
+          → cond x (cond y z false) false ≡ true → ((time_fields t).minute ≡ 0) × ((time_fields t).second ≡ 0) × ((time_fields t).ms ≡ 0)
+      go true true true a b c e = (eqb-true _ 0 a, eqb-true _ 0 b, eqb-true _ 0 c)
+      go true true false a b c e = cc
+      go true false z a b c e = cc
+      go false y z a b c e = cc
 
-midnight-written : (h m s ms : ℕ) → (h ≡ 24 → (m ≡ 0) × (s ≡ 0) × (ms ≡ 0)) → hour_allowed h m s ms ≡ true
-midnight-written h m s ms q = go (eqb h 24) refl
-  where
-    go : (x : Bool) → eqb h 24 ≡ x → hour_allowed h m s ms ≡ true
-    go true e = let z = q (eqb-true h 24 e) in rw (e, z.0, z.1, z.2)
-    go false e = rw e
+  midnight-written : ((time_fields t).hour ≡ 24 → ((time_fields t).minute ≡ 0) × ((time_fields t).second ≡ 0) × ((time_fields t).ms ≡ 0)) → time_allowed t ≡ true
+  midnight-written q = go (eqb (time_fields t).hour 24) refl
+    where
+      go : (x : Bool) → eqb (time_fields t).hour 24 ≡ x → time_allowed t ≡ true
+      go true e = let z = q (eqb-true (time_fields t).hour 24 e) in rw (e, z.0, z.1, z.2)
+      go false e = rw e
 
 -- ---- a text that is read is printed by its form
 
@@ -66,7 +67,7 @@ time-bounds t c e = record {
   minute-to = c.minute-to;
   second-to = c.second-to;
   ms-to = c.ms-to;
-  midnight = midnight-read (time_fields t).hour (time_fields t).minute (time_fields t).second (time_fields t).ms e;
+  midnight = midnight-read t e;
 }
 
 writes : (f : Form) {g : Form} {text : List ℕ} → g ≡ f → Bounds f → text ≡ prints f → Writes g text
@@ -107,7 +108,7 @@ printed-form (timed y d t z) b =
       date-written d (84 ∷ (prints_time t ++ prints_zone z)) b.1 (λ e. omega arith),
       time-written t (prints_zone z) (clock t B) n.0 n.1,
       zone-written z b.3,
-      midnight-written (time_fields t).hour (time_fields t).minute (time_fields t).second (time_fields t).ms B.midnight,
+      midnight-written t B.midnight,
     )
 
 pub printed-read : (text : List ℕ) (f : Form) → Writes f text → read text ≡ ok f []

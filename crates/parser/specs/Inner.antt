@@ -1,6 +1,6 @@
 -- What only inner contracts use. What the code's answers say: the form of a text constructor by constructor, so that nothing is left free,
 -- and a stage's place in the text as the bytes from there on. Definitions only. Assumes nothing.
-use Rattle.std.specs.Prelude.{◌≡◌, List, [], ◌∷◌, ℕ, ◌+◌, ◌<◌, ◌≤◌, Bool, true, false, cond, eqb, length, drop, Option, Some, None, Result, Ok, Err}
+use Rattle.std.specs.Prelude.{◌≡◌, List, [], ◌∷◌, ℕ, ◌+◌, ◌<◌, ◌≤◌, length, drop, Option, Some, None, Result, Ok, Err}
 use Rattle.ecma262.specs.Digits.{digits}
 use Rattle.ecma262.specs.Format as format
 use Rattle.fast_atoi.specs.Inner.{from_le_bytes}
@@ -91,7 +91,3 @@ optional mark p = choose mark (after p (λ v. give (Some v))) (give None)
 -- a year of four digits
 abbrev pub four_digits : Reader format.Year
 four_digits = after (digits_after 4 0) (λ y. give (format.Year.four y))
-
--- "Hour 24 needs all smaller fields 0", of the fields
-abbrev pub hour_allowed : ℕ → ℕ → ℕ → ℕ → Bool
-hour_allowed hour minute second ms = cond (eqb hour 24) (cond (eqb minute 0) (cond (eqb second 0) (eqb ms 0) false) false) true

@@ -3,10 +3,13 @@
 // denotes is another crate's.
 #![tactic(auto)]
 
-ghost use Rattle.std.specs.Prelude.{◌≡◌, ◌≤◌, drop, MatchOption, MatchResult};
+ghost use Rattle.std.specs.Prelude.{◌≡◌, ◌≤◌, false, drop, MatchOption, MatchResult};
+ghost use Rattle.std.specs.Range.{range_inclusive_start, range_inclusive_end, range_inclusive_exhausted};
 ghost use Rattle.ecma262.specs.Format.{time_fields};
 ghost use Rattle.parser.specs.Reading.{digits_after, byte, within, signed_year, after, read_year, read_day, read_date, read_decimals, read_second, read_time, read_offset_minute, read_offset, read_zone, after_date, after_zone, time_allowed, time_part, read};
-ghost use Rattle.parser.specs.Inner.{Reads, Ends, Next, IsDigit, NoDigit, block_of, four_digits, as_is, optional, hour_allowed, out, as_year, as_date, as_time, as_zone, as_reading};
+ghost use Rattle.parser.specs.Inner.{Reads, Ends, Next, IsDigit, NoDigit, block_of, four_digits, as_is, optional, out, as_year, as_date, as_time, as_zone, as_reading};
+
+use std::ops::RangeInclusive;
 
 // Why a text is turned back.
 #[derive(Clone, Copy, Debug, PartialEq, Eq)]
@@ -140,10 +143,11 @@ fn peek(text: &[u8], at: usize) -> Option<u8>
 fn next_expect(text: &[u8], at: usize, expected: u8) -> Read<u8>
     ensures { Reads (byte expected) text.now at (out as_is text.now result) }
 {
-    match peek(text, at) {
-        None => Err(Fault::Short),
-        Some(b) if b == expected => Ok((b, at + 1)),
-        Some(_) => Err(Fault::Bad),
+    let next = peek(text, at).ok_or(Fault::Short)?;
+    if next == expected {
+        Ok((next, at + 1))
+    } else {
+        Err(Fault::Bad)
     }
 }
 
@@ -152,9 +156,7 @@ fn next_expect(text: &[u8], at: usize, expected: u8) -> Read<u8>
 fn next_ascii_digit(text: &[u8], at: usize) -> Result<u8, Fault>
     ensures { MatchResult result (IsDigit text.now at) (NoDigit text.now at) }
 {
-    let Some(b) = peek(text, at) else {
-        return Err(Fault::Short);
-    };
+    let b = peek(text, at).ok_or(Fault::Short)?;
     if b.is_ascii_digit() {
         Ok(b)
     } else {
@@ -208,12 +210,12 @@ fn parse_n_ascii_digits(text: &[u8], at: usize, n: usize) -> Read<u32>
 
 // A field of `n` digits, whose bounds are tested after all are read.
 #[tactic(auto, unfolding(crate::specs::Reading::after, crate::specs::Reading::within))]
-fn read_field(text: &[u8], at: usize, n: usize, low: u32, high: u32) -> Read<u32>
-    requires { n ≤ 8 }
-    ensures { Reads (after (digits_after n 0) (within low high)) text.now at (out as_is text.now result) }
+fn read_field(text: &[u8], at: usize, n: usize, bounds: RangeInclusive<u32>) -> Read<u32>
+    requires { (n ≤ 8) × (range_inclusive_exhausted bounds ≡ false) }
+    ensures { Reads (after (digits_after n 0) (within (range_inclusive_start bounds) (range_inclusive_end bounds))) text.now at (out as_is text.now result) }
 {
     let (value, next) = parse_n_ascii_digits(text, at, n)?;
-    if (low..=high).contains(&value) {
+    if bounds.contains(&value) {
         Ok((value, next))
     } else {
         Err(Fault::Range)
@@ -222,13 +224,19 @@ fn read_field(text: &[u8], at: usize, n: usize, low: u32, high: u32) -> Read<u32
 
 // Where the next byte is `mark`, a field after it; else nothing.
 #[tactic(auto, unfolding(crate::specs::Inner::optional, crate::specs::Reading::choose, crate::specs::Reading::after, crate::specs::Reading::give))]
-fn field_after(text: &[u8], at: usize, mark: u8, n: usize, low: u32, high: u32) -> Read<Option<u32>>
-    requires { n ≤ 8 }
-    ensures { Reads (optional mark (after (digits_after n 0) (within low high))) text.now at (out as_is text.now result) }
+fn field_after(
+    text: &[u8],
+    at: usize,
+    mark: u8,
+    n: usize,
+    bounds: RangeInclusive<u32>,
+) -> Read<Option<u32>>
+    requires { (n ≤ 8) × (range_inclusive_exhausted bounds ≡ false) }
+    ensures { Reads (optional mark (after (digits_after n 0) (within (range_inclusive_start bounds) (range_inclusive_end bounds)))) text.now at (out as_is text.now result) }
 {
     match peek(text, at) {
         Some(b) if b == mark => {
-            let (value, next) = read_field(text, at + 1, n, low, high)?;
+            let (value, next) = read_field(text, at + 1, n, bounds)?;
             Ok((Some(value), next))
         }
         _ => Ok((None, at)),
@@ -274,7 +282,7 @@ fn parse_year(text: &[u8], at: usize) -> Read<Year>
 fn parse_day(text: &[u8], at: usize, month: u32) -> Read<Date>
     ensures { Reads (read_day month) text.now at (out as_date text.now result) }
 {
-    match field_after(text, at, b'-', 2, 1, 31)? {
+    match field_after(text, at, b'-', 2, 1..=31)? {
         (None, next) => Ok((Date::ToMonth(month), next)),
         (Some(day), next) => Ok((Date::ToDay { month, day }, next)),
     }
@@ -285,7 +293,7 @@ fn parse_day(text: &[u8], at: usize, month: u32) -> Read<Date>
 fn parse_month(text: &[u8], at: usize) -> Read<Date>
     ensures { Reads read_date text.now at (out as_date text.now result) }
 {
-    match field_after(text, at, b'-', 2, 1, 12)? {
+    match field_after(text, at, b'-', 2, 1..=12)? {
         (None, next) => Ok((Date::ToYear, next)),
         (Some(month), next) => parse_day(text, next, month),
     }
@@ -298,7 +306,7 @@ fn parse_month(text: &[u8], at: usize) -> Read<Date>
 fn parse_decimals(text: &[u8], at: usize, hour: u32, minute: u32, second: u32) -> Read<Time>
     ensures { Reads (read_decimals hour minute second) text.now at (out as_time text.now result) }
 {
-    match field_after(text, at, b'.', 3, 0, 999)? {
+    match field_after(text, at, b'.', 3, 0..=999)? {
         (None, next) => Ok((
             Time::ToSecond {
                 hour,
@@ -324,10 +332,10 @@ fn parse_decimals(text: &[u8], at: usize, hour: u32, minute: u32, second: u32) -
 fn parse_time(text: &[u8], at: usize) -> Read<Time>
     ensures { Reads read_time text.now at (out as_time text.now result) }
 {
-    let (hour, after_hour) = read_field(text, at, 2, 0, 24)?;
+    let (hour, after_hour) = read_field(text, at, 2, 0..=24)?;
     let (_, after_colon) = next_expect(text, after_hour, b':')?;
-    let (minute, after_minute) = read_field(text, after_colon, 2, 0, 59)?;
-    match field_after(text, after_minute, b':', 2, 0, 59)? {
+    let (minute, after_minute) = read_field(text, after_colon, 2, 0..=59)?;
+    match field_after(text, after_minute, b':', 2, 0..=59)? {
         (None, next) => Ok((Time::ToMinute { hour, minute }, next)),
         (Some(second), next) => parse_decimals(text, next, hour, minute, second),
     }
@@ -340,8 +348,8 @@ fn parse_time(text: &[u8], at: usize) -> Read<Time>
 fn parse_offset(text: &[u8], at: usize, negative: bool) -> Read<Zone>
     ensures { Reads (read_offset negative) text.now at (out as_zone text.now result) }
 {
-    let (hour, after_hour) = read_field(text, at, 2, 0, 23)?;
-    match field_after(text, after_hour, b':', 2, 0, 59)? {
+    let (hour, after_hour) = read_field(text, at, 2, 0..=23)?;
+    match field_after(text, after_hour, b':', 2, 0..=59)? {
         (None, next) => Ok((Zone::ToHour { negative, hour }, next)),
         (Some(minute), next) => Ok((
             Zone::ToMinute {
@@ -373,8 +381,7 @@ fn after_date(d: Date) -> Fault
     ensures { result ≡ after_date (as_date d) }
 {
     match d {
-        Date::ToYear => Fault::Bad,
-        Date::ToMonth(_) => Fault::Bad,
+        Date::ToYear | Date::ToMonth(_) => Fault::Bad,
         Date::ToDay { .. } => Fault::Trailing,
     }
 }
@@ -384,25 +391,17 @@ fn after_zone(z: Zone) -> Fault
     ensures { result ≡ after_zone (as_zone z) }
 {
     match z {
-        Zone::Absent => Fault::Bad,
-        Zone::Zulu => Fault::Trailing,
-        Zone::ToHour { .. } => Fault::Bad,
-        Zone::ToMinute { .. } => Fault::Trailing,
+        Zone::Absent | Zone::ToHour { .. } => Fault::Bad,
+        Zone::Zulu | Zone::ToMinute { .. } => Fault::Trailing,
     }
 }
 
 // "Hour 24 is only valid as 24:00:00.000"
-fn hour_allowed(hour: u32, minute: u32, second: u32, ms: u32) -> bool
-    ensures { result ≡ hour_allowed hour minute second ms }
-{
-    hour != 24 || minute == 0 && second == 0 && ms == 0
-}
-
 fn time_allowed(t: Time) -> bool
     ensures { result ≡ time_allowed (as_time t) }
 {
     let f = t.fields();
-    hour_allowed(f.hour, f.minute, f.second, f.ms)
+    f.hour != 24 || f.minute == 0 && f.second == 0 && f.ms == 0
 }
 
 // After `T`: the time, the zone and the end.

@@ -1,20 +1,18 @@
 -- The reader's answer by cases: no accepted list, a fault of the text, an instant in the range or outside it. Assumes nothing.
-use mathlib.Core.Path.{◌≡◌, sym, ap, ap₂, ◌∙◌}
+use mathlib.Core.Path.{◌≡◌, sym, ap, ap₂}
 use mathlib.Core.Bool.{Bool, true, false, cond}
-use mathlib.Core.List.{List}
+use mathlib.Core.List.{List, []}
 use Prim.Native.Nat.{ℕ, ◌≤◌, ◌<◌}
 use lib.IntN.{ℤ, nat_abs}
-use Rattle.std.specs.Prelude.{Result, Ok, Err, MatchResult, IsErrAnd}
+use Rattle.std.specs.Prelude.{Ok, Err}
 use borrow.Author.Tests.{le-leb, lt-leb}
 use Rattle.ecma262.specs.Date.{time_range}
-use Rattle.ecma262.specs.Format.{Form}
+use Rattle.ecma262.specs.Format.{Form, Bounds}
 use Rattle.zone.specs.Zone.{accepts, records}
-use Rattle.parser.specs.declared.Form.{Form as Text}
-use Rattle.parser.specs.Inner.{as_reading}
 use Rattle.parser.specs.Reading.{Out, ok, fault, read}
+use Rattle.parser.proofs.Accepts.{read-printed}
 use Rattle.parser.specs.declared.Fault.{Fault}
 use Rattle.answer.specs.Answer.{time_bits}
-use Rattle.answer.specs.declared.Refusal.{Refusal}
 use Rattle.answer.specs.declared.Refusal.TheVariants.{ZoneList, Instant}
 use Rattle.reader.specs.Denotes.{instant_of}
 use Rattle.reader.specs.Outcome.{refusal_of, answer_at, reply_for, read_outcome}
@@ -34,16 +32,9 @@ module _ (zone text : List ℕ) where
   pub text-read : (f : Form) {left : List ℕ} → accepts zone ≡ true → read text ≡ ok f left → answer_at (instant_of (records zone) f) ≡ read_outcome zone text
   text-read f {left} = by-reading (ok f left)
 
-  -- a fault of the text, handed on as its refusal
-  pub fault-turned : (p : Result Text Fault) (g : Refusal) → accepts zone ≡ true → as_reading p ≡ read text
-      → MatchResult p (λ f. Err g ≡ Ok f) (λ e. IsErrAnd {T = Text} (Err g) (λ h. h ≡ refusal_of e)) → Err g ≡ read_outcome zone text
-  fault-turned (Ok f) g a e m = cc
-  fault-turned (Err h) g a e m = ap Err m ∙ text-refused h a (sym e)
-
--- a form whose fault would have been handed on is the text's
-pub form-kept : (p : Result Text Fault) (f : Text) → MatchResult p (λ g. ◌≡◌ {A = Result Text Refusal} (Ok f) (Ok g)) (λ _. ⊥) → p ≡ Ok f
-form-kept (Ok g) f m = cc
-form-kept (Err e) f m = absurd m
+-- a form that was read is within its bounds
+pub bounds : (text : List ℕ) (f : Form) → read text ≡ ok f [] → Bounds f
+bounds text f e = (read-printed text f e).bounds
 
 module _ (t : ℤ) where
   pub answer_beyond : time_range < nat_abs t → Err Instant ≡ answer_at t

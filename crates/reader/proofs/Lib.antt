@@ -1,3 +1,3 @@
-mod Sums
 pub mod Answers
 pub mod Denotation
+mod Days

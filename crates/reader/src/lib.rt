@@ -23,8 +23,8 @@ fn year_number(y: Year) -> i64
     ensures { (result ≡ year_number (as_year y)) × (nat_abs result ≤ 1_000_000) }
 {
     match y {
-        Year::Four(year) => i64::from(year),
-        Year::Six {
+        Year::Four(year)
+        | Year::Six {
             negative: false,
             year,
         } => i64::from(year),
@@ -35,32 +35,13 @@ fn year_number(y: Year) -> i64
     }
 }
 
-// Its month from 0 and its day as written, an absent one being the first.
-fn month_and_day(d: Date) -> (u32, u32)
-    requires { DateBounds (as_date d) }
-    ensures { (result.0 ≡ (date_fields (as_date d)).month - 1) × (result.0 < 12) × (result.1 ≡ (date_fields (as_date d)).day) × (result.1 ≤ 31) }
-{
-    match d {
-        Date::ToYear => (0, 1),
-        Date::ToMonth(month) => (month - 1, 1),
-        Date::ToDay { month, day } => (month - 1, day),
-    }
-}
-
-// MakeTime of the fields.
-fn clock(hour: u32, minute: u32, second: u32, ms: u32) -> u32
-    requires { (hour ≤ 24) × (minute ≤ 59) × (second ≤ 59) × (ms ≤ 999) }
-    ensures { (result ≡ 3_600_000 * hour + 60_000 * minute + 1_000 * second + ms) × (result < 100_000_000) }
-{
-    3_600_000 * hour + 60_000 * minute + 1_000 * second + ms
-}
-
-fn clock_count(t: Time) -> u32
+// MakeTime of a time's fields.
+fn clock(t: Time) -> u32
     requires { TimeBounds (as_time t) }
     ensures { (result ≡ 3_600_000 * (time_fields (as_time t)).hour + 60_000 * (time_fields (as_time t)).minute + 1_000 * (time_fields (as_time t)).second + (time_fields (as_time t)).ms) × (result < 100_000_000) }
 {
     let f = t.fields();
-    clock(f.hour, f.minute, f.second, f.ms)
+    3_600_000 * f.hour + 60_000 * f.minute + 1_000 * f.second + f.ms
 }
 
 // A form's fields, an absent one at its default: the day of the month as written, and the milliseconds of the day.
@@ -82,10 +63,14 @@ impl Fields {
         requires { YearBounds (as_year y) × DateBounds (as_date d) × (time < 100_000_000) }
         ensures { (result.year ≡ year_number (as_year y)) × (result.month ≡ (date_fields (as_date d)).month - 1) × (result.day ≡ (date_fields (as_date d)).day) × (result.time ≡ time) }
     {
-        let (month, day) = month_and_day(d);
+        let (month, day) = match d {
+            Date::ToYear => (1, 1),
+            Date::ToMonth(month) => (month, 1),
+            Date::ToDay { month, day } => (month, day),
+        };
         Fields {
             year: year_number(y),
-            month,
+            month: month - 1,
             day,
             time,
         }
@@ -97,13 +82,15 @@ impl Fields {
     {
         match form {
             Form::Date(y, d) => Fields::at(y, d, 0),
-            Form::Timed(y, d, t, _) => Fields::at(y, d, clock_count(t)),
+            Form::Timed(y, d, t, _) => Fields::at(y, d, clock(t)),
         }
     }
 
     // MakeDay of the fields.
+    #[tactic(auto, using(crate::proofs::Days::day_small))]
     fn day_number(self) -> i64
-        ensures { (result ≡ make_day self.year (pos self.month) (pos self.day)) × (nat_abs result ≤ 402_000_000) }
+        ensures made { result ≡ make_day self.year (pos self.month) (pos self.day) }
+        ensures small { nat_abs result ≤ 402_000_000 }
     {
         calendar::day_number(self.year, self.month, i64::from(self.day))
     }
@@ -142,7 +129,7 @@ impl FieldsTime {
         requires { (hour ≤ 23) × (minute ≤ 59) }
         ensures { result ≡ less_written negative hour minute self.ms }
     {
-        let offset = i64::from(clock(hour, minute, 0, 0));
+        let offset = i64::from(clock(Time::ToMinute { hour, minute }));
         if negative {
             self.ms + offset
         } else {
@@ -151,10 +138,11 @@ impl FieldsTime {
     }
 
     // Less the offset that the list gives at it, read as an instant: `utc_t`.
+    #[tactic(auto, unfolding(local::specs::Local::utc_time, local::specs::Local::offset_of_local, local::specs::Local::offset_of_instant))]
     fn less_local(self, zone: ZoneList) -> i64
         ensures { result ≡ utc_time (records zone.entry.bytes.now) self.ms }
     {
-        self.ms - zone.lookup(local::second_of(self.ms)) as i64 * 1_000
+        self.ms - i64::from(zone.lookup(local::second_of(self.ms))) * 1_000
     }
 
     // Less the offset of a zone as it is written.
@@ -207,6 +195,7 @@ fn refusal_of(f: Fault) -> Refusal
 }
 
 // The instant that a text denotes under a zone list, or the first refusal that applies.
+#[tactic(auto, using(crate::proofs::Answers::bounds), unfolding(crate::specs::Outcome::read_outcome))]
 pub fn read(zone: &[u8], text: &[u8]) -> Result<u64, Refusal>
     ensures { result ≡ read_outcome zone.now text.now }
 {

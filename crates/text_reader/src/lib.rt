@@ -2,7 +2,7 @@
 // once, and the reading is done on the text and an index.
 #![tactic(auto)]
 
-ghost use Rattle.std.specs.Prelude.{◌≡◌, ◌≤◌, length, drop};
+ghost use Rattle.std.specs.Prelude.{◌≡◌, drop};
 ghost use Rattle.parser.specs.Reading.{read};
 ghost use Rattle.parser.specs.Inner.{as_reading};
 
@@ -32,19 +32,11 @@ impl<'a> Reader<'a> {
 
 // ---- the work, on a plain text and an index
 
-// An index, or the end where it is past the end: what is left from there on is the same.
-fn within(text: &[u8], at: usize) -> usize
-    ensures { (result ≤ length text.now) × (drop result text.now ≡ drop at text.now) }
-{
-    at.min(text.len())
-}
-
-// The form of a text from an index on, or the first fault.
+// The form of a text from an index on, or the first fault. Past the end nothing is left, as at the end.
 pub fn parse_at(text: &[u8], at: usize) -> Result<Form, Fault>
     ensures { as_reading result ≡ read (drop at text.now) }
 {
-    let from = within(text, at);
-    parser::parse(&text[from..])
+    parser::parse(text.get(at..).unwrap_or(&[]))
 }
 
 // From a plain text to a reader and back.

@@ -3,7 +3,7 @@
 #![tactic(auto)]
 
 ghost use Rattle.std.specs.Prelude.{◌≡◌, true, false, []};
-ghost use Rattle.answer.specs.Answer.{answer_of, answer_of_time};
+ghost use Rattle.answer.specs.Answer.{answer_of_time};
 ghost use Rattle.new_date.specs.declared.Part.TheVariants.{Milliseconds, Seconds, Minutes, Hours, Date, Month, FullYear};
 ghost use Rattle.fields.specs.Outcome.{build_outcome, set_outcome};
 ghost use Rattle.reader.specs.Outcome.{read_outcome};
