@@ -100,18 +100,11 @@ impl From<Result<Text, Refusal>> for Answer {
     }
 }
 
-// The reader, the builder and the setters: a time value, by its bits.
+// The reader, the builder and the setters: a time value, by its bits, as with a text of no bytes.
 impl From<Result<u64, Refusal>> for Answer {
     ghost from_gives = { λ time answer. answer ≡ answer_of_time time };
 
     fn from(time: Result<u64, Refusal>) -> Answer {
-        match time {
-            Ok(value) => Answer {
-                number: 0,
-                value: value,
-                length: 0,
-            },
-            Err(f) => Answer::from(f),
-        }
+        Answer::from(time.map(|value| Text { value, length: 0 }))
     }
 }
