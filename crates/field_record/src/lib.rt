@@ -42,7 +42,7 @@ impl<'a> FieldRecord<'a> {
         requires { bits < 8 }
         ensures { result ≡ has_other_bit bits self.entry.bytes.now }
     {
-        self.bytes[0] >> bits != 0
+        u32::from(self.bytes[0]) >> bits != 0
     }
 
     // The arguments from bit 0 on.
