@@ -205,10 +205,7 @@ pub fn built(fields: FieldRecord) -> f64
 fn shift_out(zone: Option<ZoneList>, date: f64) -> f64
     ensures { result ≡ shift_out (is_some zone.entry) (records (list_bytes zone.entry)) date }
 {
-    match zone {
-        Some(list) => local::utc_t(date, list),
-        None => date,
-    }
+    zone.map_or(date, |list| local::utc_t(date, list))
 }
 
 // The bits of TimeClip(UTC(date)) where the call is local, and of TimeClip(date) where it is not.
