@@ -1,5 +1,4 @@
--- The map's ones, and the places of the fields: the ones below a bit and those from it on are all of them, so the field of a bit that stands
--- lies within a record of the right length. Assumes nothing.
+-- The arguments of a record: read bit by bit each has its own field, and a record of the right length has room for all. Assumes nothing.
 use mathlib.Core.Path.{◌≡◌, refl, sym, ap, ◌∙◌, subst}
 use mathlib.Core.Bool.{Bool, true, false, not, cond}
 use mathlib.Core.List.{List}
@@ -53,6 +52,7 @@ module _ (map : ℕ) (fields : List ℕ) where
   pub filled_given : length fields ≡ 8 * ones map → map % 2 ≡ 1 → length (take (length fields - 8) (drop 8 fields)) ≡ 8 * ones (map / 2)
   filled_given h e = ap length (take_rest fields 8) ∙ omega (arith, h, e, ones_step map, length-drop 8 fields)
 
+-- a number's bytes, past some others
 little_endian-drop : (n from : ℕ) (bytes : List ℕ) (at : ℕ) → little_endian n (drop from bytes) at ≡ little_endian n bytes (from + at)
 unfolding little_endian
 little_endian-drop zero from bytes at = refl
@@ -60,10 +60,11 @@ little_endian-drop (suc n) from bytes at =
     let byte : get_or (drop from bytes) (at + n) 0 ≡ get_or bytes (from + at + n) 0 = get_or-drop from bytes (at + n) 0 ∙ ap (λ (k : ℕ). get_or bytes k 0) (sym (add_assoc from at n)) in
     λ j. little_endian-drop n from bytes at j + 256 ^ n * byte j
 
+-- the ones below a bit and those from it on are all of them
 ones_split : (map i : ℕ) → ones map ≡ ones (map / 2 ^ i) + ones (map % 2 ^ i)
 ones_split map i = ap ones (sym (div-add-mod' map (2 ^ i))) ∙ ones_cat i (map / 2 ^ i) (map % 2 ^ i) (mod-lt map (pow_pos i))
 
--- the field of bit i is past those of the lower bits that stand
+-- the argument of bit i: its field is past those of the lower bits that stand
 abbrev placed : ℕ → List ℕ → ℕ → Option Float
 placed map fields i = cond (eqb (map / 2 ^ i % 2) 1) (Some (of_bits binary64 (little_endian 8 fields (8 * ones (map % 2 ^ i))))) None
 
