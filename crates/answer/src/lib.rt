@@ -2,7 +2,7 @@
 // length.
 #![tactic(auto)]
 
-ghost use Rattle.std.specs.Prelude.{◌≡◌};
+ghost use Rattle.std.specs.Prelude.{◌≡◌, Ok};
 ghost use Rattle.answer.specs.Answer.{refusal_number, refused_answer, answer_of, answer_of_time};
 
 // Every NaN handed out has these bits.
@@ -84,34 +84,35 @@ impl From<Refusal> for Answer {
     }
 }
 
+impl From<Text> for Answer {
+    ghost from_gives = { λ text answer. answer ≡ answer_of (Ok text) };
+
+    fn from(text: Text) -> Answer {
+        Answer {
+            number: 0,
+            value: text.value,
+            length: text.length,
+        }
+    }
+}
+
 // The writers and rewriting.
 impl From<Result<Text, Refusal>> for Answer {
     ghost from_gives = { λ written answer. answer ≡ answer_of written };
 
     fn from(written: Result<Text, Refusal>) -> Answer {
-        match written {
-            Ok(text) => Answer {
-                number: 0,
-                value: text.value,
-                length: text.length,
-            },
-            Err(f) => Answer::from(f),
-        }
+        written.map_or_else(Answer::from, Answer::from)
     }
 }
 
-// The reader, the builder and the setters: a time value, by its bits.
+// The reader, the builder and the setters: a time value, by its bits, and no text.
 impl From<Result<u64, Refusal>> for Answer {
     ghost from_gives = { λ time answer. answer ≡ answer_of_time time };
 
     fn from(time: Result<u64, Refusal>) -> Answer {
-        match time {
-            Ok(value) => Answer {
-                number: 0,
-                value: value,
-                length: 0,
-            },
-            Err(f) => Answer::from(f),
-        }
+        time.map_or_else(
+            Answer::from,
+            |value| Answer::from(Text { value, length: 0 }),
+        )
     }
 }

@@ -1,18 +1,19 @@
 // The field record, in which a call's arguments cross: lent bytes, a map and then 8 for each bit that stands in it.
 #![tactic(auto)]
 
-ghost use Rattle.std.specs.Prelude.{◌≡◌, true, ◌+◌, ◌<◌, is_some, IfSome};
-ghost use Rattle.field_record.specs.FieldRecord.{stands, has_length, has_other_bit, place_of};
-ghost use Rattle.field_record.specs.Inner.{given};
+ghost use Rattle.std.specs.Prelude.{◌≡◌, true, ◌*◌, ◌<◌, length, is_some, IfSome};
+ghost use Rattle.std.specs.Int.Count.{ones};
+ghost use Rattle.field_record.specs.FieldRecord.{has_length, has_other_bit};
+ghost use Rattle.field_record.specs.Inner.{given, argument_of, after};
 
 // Whether the map's ones fix this length.
+#[tactic(auto, unfolding(crate::specs::FieldRecord::has_length))]
 fn has_length(bytes: &[u8]) -> bool
     ensures { result ≡ has_length bytes.now }
 {
-    if bytes.is_empty() {
-        return false;
-    }
-    bytes.len() == 1 + 8 * (bytes[0].count_ones() as usize)
+    bytes
+        .first()
+        .is_some_and(|map| bytes.len() == 1 + 8 * (map.count_ones() as usize))
 }
 
 // A record of the right length.
@@ -29,12 +30,14 @@ impl<'a> FieldRecord<'a> {
         ensures kept { IfSome result (λ made. made.bytes.now ≡ bytes.now) }
     {
         if has_length(bytes) {
-            return Some(FieldRecord { bytes });
+            Some(FieldRecord { bytes })
+        } else {
+            None
         }
-        None
     }
 
     // Whether a bit stands that a call of `bits` bits hasn't got: refusal 4 is the answer `true`.
+    #[tactic(auto, using(crate::proofs::Laws::not_empty, crate::proofs::Laws::other_bit))]
     pub fn has_other_bit(self, bits: u32) -> bool
         requires { bits < 8 }
         ensures { result ≡ has_other_bit bits self.entry.bytes.now }
@@ -42,51 +45,40 @@ impl<'a> FieldRecord<'a> {
         u32::from(self.bytes[0]) >> bits != 0
     }
 
-    // Whether a bit stands.
-    fn stands(self, bit: u32) -> bool
-        requires { bit < 8 }
-        ensures { result ≡ stands self.entry.bytes.now bit }
-    {
-        (u32::from(self.bytes[0]) >> bit) % 2 == 1
-    }
-
     // The arguments from bit 0 on.
+    #[tactic(auto, using(crate::proofs::Laws::not_empty, crate::proofs::Laws::from_record, crate::proofs::Laws::filled))]
     pub fn arguments(self) -> Arguments<'a>
-        ensures start { result.bit ≡ 0 }
-        ensures same { result.fields.bytes.now ≡ self.entry.bytes.now }
+        ensures { argument_of result.map result.fields.now ≡ given self.entry.bytes.now }
     {
         Arguments {
-            fields: self,
-            bit: 0,
-            at: 1,
+            map: self.bytes[0],
+            fields: &self.bytes[1..],
         }
     }
 }
 
-// The arguments from a bit on, whose field's place is `at`.
+// The arguments from a bit on: the map's bits that are left, and the fields of those that stand.
 #[derive(Clone, Copy)]
 pub struct Arguments<'a> {
-    pub fields: FieldRecord<'a>,
-    pub bit: u32,
-    pub at: usize,
-    pub ghost place: { at ≡ place_of fields.bytes.now bit },
+    pub map: u8,
+    pub fields: &'a [u8],
+    pub ghost filled: { length fields.now ≡ 8 * ones map },
 }
 
 impl<'a> Arguments<'a> {
     // The bit's field, where the bit stands; and on to the next bit.
+    #[tactic(auto, using(crate::proofs::Laws::first_absent, crate::proofs::Laws::first_given, crate::proofs::Laws::later_absent, crate::proofs::Laws::later_given, crate::proofs::Laws::filled_absent, crate::proofs::Laws::room, crate::proofs::Laws::filled_given))]
     pub fn next(&mut self) -> Option<f64>
-        requires { self.old.bit < 8 }
-        ensures value { result ≡ given self.old.fields.bytes.now self.old.bit }
-        ensures on { self.new.bit ≡ self.old.bit + 1 }
-        ensures same { self.new.fields.bytes.now ≡ self.old.fields.bytes.now }
+        ensures value { result ≡ argument_of self.old.map self.old.fields.now 0 }
+        ensures on { argument_of self.new.map self.new.fields.now ≡ after (argument_of self.old.map self.old.fields.now) }
     {
-        let stands = self.fields.stands(self.bit);
-        self.bit += 1;
+        let stands = self.map % 2 == 1;
+        self.map >>= 1;
         if !stands {
             return None;
         }
-        let value = float::of_bits(little_endian::u64_at(self.fields.bytes, self.at));
-        self.at += 8;
+        let value = float::of_bits(little_endian::u64_at(self.fields, 0));
+        self.fields = &self.fields[8..];
         Some(value)
     }
 }

@@ -78,10 +78,7 @@ fn bits_of(first: Part) -> u32
 fn shift_in(zone: Option<ZoneList>, t: f64) -> f64
     ensures { result ≡ shift_in (is_some zone.entry) (records (list_bytes zone.entry)) t }
 {
-    match zone {
-        Some(list) => local::local_time(t, list),
-        None => t,
-    }
+    zone.map_or(t, |list| local::local_time(t, list))
 }
 
 // Where a setter starts. Of a NaN date the setters' own operations give NaN, but for the year's.

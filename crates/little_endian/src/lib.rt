@@ -10,7 +10,7 @@ pub fn u32_at(bytes: &[u8], at: usize) -> u32
     requires { at + 4 ≤ length bytes.now }
     ensures { result ≡ little_endian 4 bytes.now at }
 {
-    u32::from_le_bytes([bytes[at], bytes[at + 1], bytes[at + 2], bytes[at + 3]])
+    u32::from_le_bytes(*bytes[at..at + 4].first_chunk::<4>().unwrap())
 }
 
 #[tactic(auto, unfolding(crate::specs::Bytes::little_endian))]
@@ -18,16 +18,7 @@ pub fn u64_at(bytes: &[u8], at: usize) -> u64
     requires { at + 8 ≤ length bytes.now }
     ensures { result ≡ little_endian 8 bytes.now at }
 {
-    u64::from_le_bytes([
-        bytes[at],
-        bytes[at + 1],
-        bytes[at + 2],
-        bytes[at + 3],
-        bytes[at + 4],
-        bytes[at + 5],
-        bytes[at + 6],
-        bytes[at + 7],
-    ])
+    u64::from_le_bytes(*bytes[at..at + 8].first_chunk::<8>().unwrap())
 }
 
 // Two's complement.

@@ -3,7 +3,7 @@
 // record; that it is the standard's own step in the exact domain is in proofs/Exact.antt.
 #![tactic(auto)]
 
-ghost use Rattle.std.specs.Prelude.{◌≡◌, ◌<◌, is_some};
+ghost use Rattle.std.specs.Prelude.{◌≡◌, is_some};
 ghost use Rattle.std.specs.Float.{nan, binary64};
 ghost use Rattle.std.specs.Float.Ieee.{to_bits};
 ghost use Rattle.zone.specs.Zone.{records};
@@ -28,9 +28,8 @@ pub enum Part {
 // ---- the arguments
 
 // The first: where it is absent, it is NaN.
-#[tactic(auto, using(field_record::proofs::Laws::given_or, crate::proofs::Literals::not_a_number))]
+#[tactic(auto, using(crate::proofs::Literals::not_a_number))]
 fn first_of(arguments: &mut Arguments) -> f64
-    requires { arguments.old.bit < 8 }
     ensures { Reads arguments.old arguments.new nan result }
 {
     arguments.next().unwrap_or(f64::NAN)
@@ -52,9 +51,8 @@ fn present(part: Part, t: f64) -> f64
 }
 
 // Another of a setter: where it is absent, it is asked of t, and else not.
-#[tactic(auto, using(crate::proofs::Literals::read_or_else))]
+#[tactic(auto, using(crate::proofs::Literals::or_else))]
 fn next_of(arguments: &mut Arguments, part: Part, t: f64) -> f64
-    requires { arguments.old.bit < 8 }
     ensures { Reads arguments.old arguments.new (present part t) result }
 {
     arguments.next().unwrap_or_else(|| present(part, t))
@@ -62,7 +60,7 @@ fn next_of(arguments: &mut Arguments, part: Part, t: f64) -> f64
 
 // ---- the clock's setters
 
-#[tactic(auto, unfolding(crate::specs::Calls::new_date_of, crate::specs::Calls::new_date, crate::specs::Calls::absent))]
+#[tactic(auto, using(field_record::proofs::Laws::given_or), unfolding(crate::specs::Calls::new_date_of, crate::specs::Calls::new_date, crate::specs::Calls::absent))]
 fn milliseconds(t: f64, fields: FieldRecord) -> f64
     ensures { result ≡ new_date_of (set Part.Milliseconds) t fields.entry.bytes.now }
 {
@@ -78,7 +76,7 @@ fn milliseconds(t: f64, fields: FieldRecord) -> f64
     make::make_date(calendar::day(t), time)
 }
 
-#[tactic(auto, unfolding(crate::specs::Calls::new_date_of, crate::specs::Calls::new_date, crate::specs::Calls::absent))]
+#[tactic(auto, using(field_record::proofs::Laws::given_or), unfolding(crate::specs::Calls::new_date_of, crate::specs::Calls::new_date, crate::specs::Calls::absent))]
 fn seconds(t: f64, fields: FieldRecord) -> f64
     ensures { result ≡ new_date_of (set Part.Seconds) t fields.entry.bytes.now }
 {
@@ -90,7 +88,7 @@ fn seconds(t: f64, fields: FieldRecord) -> f64
     make::make_date(calendar::day(t), time)
 }
 
-#[tactic(auto, unfolding(crate::specs::Calls::new_date_of, crate::specs::Calls::new_date, crate::specs::Calls::absent))]
+#[tactic(auto, using(field_record::proofs::Laws::given_or), unfolding(crate::specs::Calls::new_date_of, crate::specs::Calls::new_date, crate::specs::Calls::absent))]
 fn minutes(t: f64, fields: FieldRecord) -> f64
     ensures { result ≡ new_date_of (set Part.Minutes) t fields.entry.bytes.now }
 {
@@ -103,7 +101,7 @@ fn minutes(t: f64, fields: FieldRecord) -> f64
     make::make_date(calendar::day(t), time)
 }
 
-#[tactic(auto, unfolding(crate::specs::Calls::new_date_of, crate::specs::Calls::new_date, crate::specs::Calls::absent))]
+#[tactic(auto, using(field_record::proofs::Laws::given_or), unfolding(crate::specs::Calls::new_date_of, crate::specs::Calls::new_date, crate::specs::Calls::absent))]
 fn hours(t: f64, fields: FieldRecord) -> f64
     ensures { result ≡ new_date_of (set Part.Hours) t fields.entry.bytes.now }
 {
@@ -119,7 +117,7 @@ fn hours(t: f64, fields: FieldRecord) -> f64
 
 // ---- the day's setters
 
-#[tactic(auto, unfolding(crate::specs::Calls::new_date_of, crate::specs::Calls::new_date, crate::specs::Calls::absent))]
+#[tactic(auto, using(field_record::proofs::Laws::given_or), unfolding(crate::specs::Calls::new_date_of, crate::specs::Calls::new_date, crate::specs::Calls::absent))]
 fn date(t: f64, fields: FieldRecord) -> f64
     ensures { result ≡ new_date_of (set Part.Date) t fields.entry.bytes.now }
 {
@@ -130,7 +128,7 @@ fn date(t: f64, fields: FieldRecord) -> f64
     make::make_date(day, calendar::time_within_day(t))
 }
 
-#[tactic(auto, unfolding(crate::specs::Calls::new_date_of, crate::specs::Calls::new_date, crate::specs::Calls::absent))]
+#[tactic(auto, using(field_record::proofs::Laws::given_or), unfolding(crate::specs::Calls::new_date_of, crate::specs::Calls::new_date, crate::specs::Calls::absent))]
 fn month(t: f64, fields: FieldRecord) -> f64
     ensures { result ≡ new_date_of (set Part.Month) t fields.entry.bytes.now }
 {
@@ -150,7 +148,7 @@ fn or_zero(t: f64) -> f64
     if t.is_nan() { 0.0 } else { t }
 }
 
-#[tactic(auto, unfolding(crate::specs::Calls::new_date_of, crate::specs::Calls::new_date, crate::specs::Calls::absent))]
+#[tactic(auto, using(field_record::proofs::Laws::given_or), unfolding(crate::specs::Calls::new_date_of, crate::specs::Calls::new_date, crate::specs::Calls::absent))]
 fn full_year(date: f64, fields: FieldRecord) -> f64
     ensures { result ≡ new_date_of (set Part.FullYear) date fields.entry.bytes.now }
 {
@@ -207,10 +205,7 @@ pub fn built(fields: FieldRecord) -> f64
 fn shift_out(zone: Option<ZoneList>, date: f64) -> f64
     ensures { result ≡ shift_out (is_some zone.entry) (records (list_bytes zone.entry)) date }
 {
-    match zone {
-        Some(list) => local::utc_t(date, list),
-        None => date,
-    }
+    zone.map_or(date, |list| local::utc_t(date, list))
 }
 
 // The bits of TimeClip(UTC(date)) where the call is local, and of TimeClip(date) where it is not.

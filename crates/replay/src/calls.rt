@@ -1,16 +1,7 @@
 //! The calls, by a case's tag: one `match` for each group of functions.
 use crate::answer_line::AnswerLine;
 use crate::case::Case;
-use answer::Answer;
-
-/// What a function that is no C function answers.
-fn answer_of_value(value: u64) -> Answer {
-    Answer {
-        number: 0,
-        value,
-        length: 0,
-    }
-}
+use answer::{Answer, Text};
 
 impl Case {
     /// f64's own methods and casts.
@@ -175,7 +166,7 @@ impl Case {
         Some(answer)
     }
 
-    /// The answer of a function that writes no output.
+    /// The answer of a function that writes no output; one that is no C function gives a value alone.
     fn answer(&self) -> Option<Answer> {
         self.floats()
             .or_else(|| self.days())
@@ -183,7 +174,7 @@ impl Case {
             .or_else(|| self.makers())
             .or_else(|| self.digits())
             .or_else(|| self.zones())
-            .map(answer_of_value)
+            .map(|value| Answer::from(Text { value, length: 0 }))
             .or_else(|| self.reader_and_builder())
             .or_else(|| self.utc_setters())
             .or_else(|| self.local_setters())

@@ -1,6 +1,8 @@
 //! A case, as a line writes it: a tag of four bytes and then its fields, one space before each.
+ghost use Rattle.std.specs.Prelude.{◌≡◌, IfOk};
+ghost use Rattle.replay.specs.Case.{first_bytes};
+
 use std::alloc::{AllocError, Global};
-use std::array;
 
 /// A field's bytes, and the number that the first eight are, the highest first.
 #[derive(Drop)]
@@ -19,8 +21,13 @@ pub(crate) struct Case {
 }
 
 /// The first N bytes, with zero bytes for those that are missing.
-fn leading<const N: usize>(bytes: &[u8]) -> [u8; N] {
-    array::from_fn(|at| bytes.get(at).copied().unwrap_or(0))
+fn leading<const N: usize>(bytes: &[u8]) -> [u8; N]
+    ensures { result ≡ first_bytes N bytes.now }
+{
+    let mut first = [0; N];
+    let there = bytes.len().min(N);
+    first[..there].copy_from_slice(&bytes[..there]);
+    first
 }
 
 /// What a byte stands for in a field. Any byte from `0` on is some digit, so that a field has its length whatever stands in it.
@@ -49,7 +56,9 @@ impl Field {
 
 impl Case {
     /// A tag that is too short ends in zero bytes; a field that is missing is empty.
-    pub(crate) fn parse(alloc: Global, line: &[u8]) -> Result<Case, AllocError> {
+    pub(crate) fn parse(alloc: Global, line: &[u8]) -> Result<Case, AllocError>
+        ensures { IfOk result (λ case. case.tag ≡ first_bytes 4 line.now) }
+    {
         let mut fields = line.split(|byte| *byte == b' ').skip(1);
         let mut field = || Field::parse(alloc, fields.next().unwrap_or(&[]));
         Ok(Case {

@@ -9,15 +9,12 @@ use zone_records::ZoneRecord;
 
 // The records that bytes hold, 12 bytes each.
 fn records(alloc: Global, bytes: &[u8]) -> Result<Vec<ZoneRecord>, AllocError> {
-    let mut all = Vec::new(alloc);
     let (chunks, _) = bytes.as_chunks::<12>();
-    for chunk in chunks {
-        all.push(ZoneRecord {
-            second: zone::second_at(chunk, 0),
-            offset: zone::offset_at(chunk, 0),
-        })?;
-    }
-    Ok(all)
+    let records = chunks.iter().map(|chunk| ZoneRecord {
+        second: zone::second_at(chunk, 0),
+        offset: zone::offset_at(chunk, 0),
+    });
+    records.collect(alloc)
 }
 
 // The seconds asked: from four steps before the first record of the longest list to four past its last.
