@@ -21,10 +21,10 @@ returns-then-output-length c =
     prints_none (length-local (whole_of c.args.f) c.args.offset c.args.f.printable.weekday-ok c.args.f.printable.month-ok ∙ ap (λ n. n + 29) (year-length (goal.at.returns-then-output-length c).After-signed_length-length)) c.if-output-length.true refl
 
 pub put_year_and_time-requires : goal.put_year_and_time-requires
-put_year_and_time-requires c = omega (arith, year-length (goal.at.put_year_and_time-requires c).After-signed_length-length)
+put_year_and_time-requires c = omega (arith, ap length c.new-text.ensures.same_bytes, year-length (goal.at.put_year_and_time-requires c).After-signed_length-length)
 
 pub returns : goal.returns
 returns c =
     let n = year-length (goal.at.returns c).After-signed_length-length in
     prints_whole (appended_as (appended_then (appended_then c.put_local_head.ensures c.put_year_and_time.ensures) (zone-put c.ranges.offset c.time_zone_string.ensures)) (simp append_assoc))
-    refl refl (search rules) (omega (arith, n)) (omega arith)
+    c.new-text.ensures.same_bytes c.new-text.ensures.at_start (search rules) (omega (arith, n)) (omega arith)
