@@ -85,6 +85,7 @@ fn write_invalid(output: &mut [u8]) -> Result<Text, Refusal>
 }
 
 // Date.prototype.toISOString
+#[tactic(auto, unfolding(crate::specs::Writer::iso_outcome))]
 pub fn to_iso_string(time: u64, output: &mut [u8]) -> Result<Text, Refusal>
     ensures { Leaves (iso_outcome time output.old) result output.new }
 {
@@ -95,6 +96,7 @@ pub fn to_iso_string(time: u64, output: &mut [u8]) -> Result<Text, Refusal>
 }
 
 // Date.prototype.toUTCString
+#[tactic(auto, unfolding(crate::specs::Writer::utc_outcome))]
 pub fn to_utc_string(time: u64, output: &mut [u8]) -> Result<Text, Refusal>
     ensures { Leaves (utc_outcome time output.old) result output.new }
 {
@@ -105,12 +107,11 @@ pub fn to_utc_string(time: u64, output: &mut [u8]) -> Result<Text, Refusal>
 }
 
 // Date.prototype.toString, by ToDateString
+#[tactic(auto, unfolding(crate::specs::Writer::local_outcome))]
 pub fn to_string(zone: &[u8], time: u64, output: &mut [u8]) -> Result<Text, Refusal>
     ensures { Leaves (local_outcome zone.now time output.old) result output.new }
 {
-    let Some(list) = ZoneList::accept(zone) else {
-        return Err(Refusal::ZoneList);
-    };
+    let list = ZoneList::accept(zone).ok_or(Refusal::ZoneList)?;
     match timevalue::time_value(time).ok_or(Refusal::TimeValue)? {
         TimeValue::Nan => write_invalid(output),
         TimeValue::Time(t) => to_date_string_t(t, list, output),

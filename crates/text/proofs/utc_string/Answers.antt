@@ -15,9 +15,6 @@ pub returns-then-output-length : goal.returns-then-output-length
 returns-then-output-length c =
     prints_none (length-utc (whole_of c.args.f) c.args.f.printable.weekday-ok c.args.f.printable.month-ok ∙ ap (λ n. n + 25) (year-long c.args.f.year c.args.f.printable.year-ok c.signed_length-length.ensures.0)) c.if-output-length.true refl
 
-pub put_year_and_time-requires : goal.put_year_and_time-requires
-put_year_and_time-requires c = omega (arith, ap length c.new-text.ensures.same_bytes, year-long c.args.f.year c.args.f.printable.year-ok c.signed_length-length.ensures.0)
-
 pub returns : goal.returns
 returns c =
     let n = year-long c.args.f.year c.args.f.printable.year-ok c.signed_length-length.ensures.0 in
