@@ -7,8 +7,7 @@ use native.Mathlib.Nat.{zero-add}
 use native.Mathlib.Numerals.{add-one}
 use borrow.Author.Tests.{eq-eqb, ne_eqb, lt-ltb, le-ltb}
 use lib.ListN.{length, take, set, get_or, take-append-drop}
-use lib.Seq.{length-take-le, take-suc-set, take-suc, take_all, sets, sets-eq}
-use Rattle.text.specs.Inner.{HasRoom}
+use lib.Seq.{length-take-le, take-suc-set, take-suc, sets, sets-eq}
 use Rattle.text.specs.declared.output.Output.{Output}
 use Rattle.text.proofs.Runs.{sets-join, appended_none, appended_own, appended_then}
 use Rattle.datelines.specs.declared.open_line.OpenLine.{OpenLine}
@@ -32,22 +31,22 @@ line_ends line b out next last e p same none =
     }
 
 -- another byte is kept, or not
-module _ (line : OpenLine) (b : ℕ) (out : Output) (next : OpenLine) (other : b ≡ 10 → ⊥) (long : length line.bytes ≡ 33) where
+module _ (line : OpenLine) (b : ℕ) (out : Output) (next : OpenLine) (other : b ≡ 10 → ⊥) (inside : line.kept ≤ length line.bytes) where
   count : length (begun line) ≡ line.kept
-  count = let few : line.kept ≤ 33 = line.few in length-take-le line.kept line.bytes (omega arith)
+  count = length-take-le line.kept line.bytes inside
 
   -- the open line, stored where it stands
   in_place : sets line.bytes 0 (begun line) ≡ line.bytes
-  in_place = let few : line.kept ≤ 33 = line.few in sets-eq (begun line) line.bytes 0 (omega (arith, count)) ∙ rw (zero-add, count) (take-append-drop line.kept line.bytes)
+  in_place = sets-eq (begun line) line.bytes 0 (omega (arith, count)) ∙ rw (zero-add, count) (take-append-drop line.kept line.bytes)
 
   taken_in : begun next ≡ behind (begun line) b → next.bytes ≡ sets line.bytes 0 (behind (begun line) b) → TakenIn line b out next out
   unfolding prints
   taken_in opens leaves = record { puts = appended_own appended_none (rw (ne_eqb b 10 other)); opens = opens; leaves = leaves; room = omega arith }
 
-  pub byte_kept : line.kept < 33 → next.bytes ≡ set line.bytes line.kept b → next.kept ≡ line.kept + 1 → TakenIn line b out next out
+  pub byte_kept : line.kept < 33 → line.kept < length line.bytes → next.bytes ≡ set line.bytes line.kept b → next.kept ≡ line.kept + 1 → TakenIn line b out next out
   unfolding behind
-  byte_kept h bytes kept =
-      taken_in (rw (bytes, kept, ne_eqb b 10 other, count, lt-ltb line.kept 33 h, add-one) (take-suc-set line.bytes line.kept b (omega arith)))
+  byte_kept h room bytes kept =
+      taken_in (rw (bytes, kept, ne_eqb b 10 other, count, lt-ltb line.kept 33 h, add-one) (take-suc-set line.bytes line.kept b room))
       (rw (ne_eqb b 10 other, count, lt-ltb line.kept 33 h) (bytes ∙ sym (sym (sets-join (begun line) (b ∷ []) line.bytes 0) ∙ rw (in_place, zero-add, count))))
 
   pub byte_dropped : 33 ≤ line.kept → next.bytes ≡ line.bytes → next.kept ≡ line.kept → TakenIn line b out next out
@@ -79,18 +78,4 @@ module _ (chunk : List ℕ) (line : OpenLine) (out : Output) where
           leaves = q.leaves ∙ ap₂ (λ (n s : List ℕ). sets n 0 (behind s b)) p.leaves p.opens
               ∙ sym (ap (lent line.bytes (begun line)) part ∙ lent-snoc line.bytes (begun line) (take i chunk) b);
           room = omega (arith, p.room, q.room);
-        }
-
-    pub room_left : HasRoom out (64 * length chunk) → i < length chunk → HasRoom o 64
-    room_left h more = omega (arith, p.room, p.puts.size)
-
-    pub all_fed : length chunk ≤ i → i ≤ length chunk
-        → Feeds (emitted (begun line) chunk) (left (begun line) chunk) (lent line.bytes (begun line) chunk) (64 * length chunk) out l o
-    all_fed h g =
-        let e : take i chunk ≡ chunk = take_all i chunk h in
-        record {
-          puts = appended_own p.puts (ap (emitted (begun line)) e);
-          opens = p.opens ∙ ap (left (begun line)) e;
-          leaves = p.leaves ∙ ap (lent line.bytes (begun line)) e;
-          room = omega (arith, p.room);
         }

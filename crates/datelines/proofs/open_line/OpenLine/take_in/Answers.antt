@@ -8,7 +8,7 @@ pub returns-then-b-eq-NEWLINE : goal.returns-then-b-eq-NEWLINE
 returns-then-b-eq-NEWLINE c = line_ends c.args.self.now _ _ _ _ (omega arith) c.put_line.ensures refl refl
 
 pub returns-then-self-lt-MOST_KEPT : goal.returns-then-self-lt-MOST_KEPT
-returns-then-self-lt-MOST_KEPT c = byte_kept c.args.self.now _ _ _ c.if-b-eq-NEWLINE.false (omega arith) (omega arith) refl refl
+returns-then-self-lt-MOST_KEPT c = byte_kept c.args.self.now _ _ _ c.if-b-eq-NEWLINE.false (omega arith) (omega arith) (omega arith) refl refl
 
 pub returns-else-self-lt-MOST_KEPT : goal.returns-else-self-lt-MOST_KEPT
 returns-else-self-lt-MOST_KEPT c = byte_dropped c.args.self.now _ _ _ c.if-b-eq-NEWLINE.false (omega arith) (omega arith) refl refl
