@@ -1,5 +1,5 @@
 -- What one byte of the input prints and leaves open, and the lent bytes then, by cases; and the chunk so far, with a byte more. Assumes nothing.
-use mathlib.Core.Path.{◌≡◌, refl, sym, ap, ap₂, ◌∙◌}
+use mathlib.Core.Path.{◌≡◌, sym, ap, ap₂, ◌∙◌}
 use mathlib.Core.List.{List, [], ◌∷◌, ◌++◌}
 use Prim.Native.Nat.{ℕ, ◌+◌, ◌*◌, ◌≤◌, ◌<◌}
 use native.Mathlib.Omega.{arith}
@@ -59,9 +59,9 @@ abbrev pub FedTo : List ℕ → OpenLine → Output → ℕ → OpenLine → Out
 FedTo chunk line out i l o = Feeds (emitted (begun line) (take i chunk)) (left (begun line) (take i chunk)) (lent line.bytes (begun line) (take i chunk)) (64 * i) out l o
 
 module _ (chunk : List ℕ) (line : OpenLine) (out : Output) where
-  pub none_fed : FedTo chunk line out 0 line out
+  pub none_fed : {next : OpenLine} → next.bytes ≡ line.bytes → next.kept ≡ line.kept → FedTo chunk line out 0 next out
   unfolding emitted left lent
-  none_fed = record { puts = appended_none; opens = refl; leaves = refl; room = omega arith }
+  none_fed bytes kept = record { puts = appended_none; opens = rw (bytes, kept); leaves = bytes; room = omega arith }
 
   module _ (i : ℕ) {l : OpenLine} {o : Output} (p : FedTo chunk line out i l o) where
     pub one_more : {k : OpenLine} {last : Output} → i < length chunk
