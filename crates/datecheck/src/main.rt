@@ -5,6 +5,8 @@
 ghost use Rattle.std.specs.Prelude.{◌≤◌, length};
 
 use datelines::OpenLine;
+use std::fmt;
+use std::fmt::{Display, Formatter};
 use std::io::{Read, Write};
 use text::Output;
 
@@ -21,13 +23,13 @@ enum Failure {
     Write,
 }
 
-// A line on standard error. Where that fails too, nothing is left to say it on.
-fn say(rt: &HostRuntime, failure: Failure) {
-    let message = match failure {
-        Failure::Read => "datecheck: cannot read standard input\n",
-        Failure::Write => "datecheck: cannot write to standard output\n",
-    };
-    let _ = rt.stderr().write_all(message.as_bytes());
+impl Display for Failure {
+    fn fmt<W: fmt::Write>(&self, f: &mut Formatter<W>) -> fmt::Result {
+        f.write_str(match self {
+            Failure::Read => "cannot read standard input",
+            Failure::Write => "cannot write to standard output",
+        })
+    }
 }
 
 // The answers to what was read go into the output, from its start: how many bytes they are. The input has ended where a read gives nothing: then
@@ -72,7 +74,8 @@ fn main(rt: HostRuntime) {
             Ok(true) => (),
             Ok(false) => return,
             Err(failure) => {
-                say(&rt, failure);
+                // Where that fails too, nothing is left to say it on.
+                let _ = eprintln!(rt; "datecheck: {failure}");
                 return;
             }
         }
