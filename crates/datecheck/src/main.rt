@@ -5,8 +5,16 @@
 ghost use Rattle.std.specs.Prelude.{◌≤◌, length};
 
 use datelines::OpenLine;
+use std::fmt;
+use std::fmt::{Display, Formatter};
 use std::io::{Read, Write};
 use text::Output;
+
+// How much is read at once.
+const READ: usize = 4096;
+
+// Room for what that answers: no byte is answered by more than 64.
+const ROOM: usize = 64 * READ;
 
 // What stops the program before the input has ended.
 #[derive(Clone, Copy)]
@@ -15,26 +23,24 @@ enum Failure {
     Write,
 }
 
-// A line on standard error. Where that fails too, nothing is left to say it on.
-fn say(rt: &HostRuntime, failure: Failure) {
-    let message = match failure {
-        Failure::Read => "datecheck: cannot read standard input\n",
-        Failure::Write => "datecheck: cannot write to standard output\n",
-    };
-    match rt.stderr().write_all(message.as_bytes()) {
-        Ok(()) => (),
-        Err(_) => (),
+impl Display for Failure {
+    fn fmt<W: fmt::Write>(&self, f: &mut Formatter<W>) -> fmt::Result {
+        f.write_str(match self {
+            Failure::Read => "cannot read standard input",
+            Failure::Write => "cannot write to standard output",
+        })
     }
 }
 
 // The answers to what was read go into the output, from its start: how many bytes they are. The input has ended where a read gives nothing: then
 // a last line without a newline is answered.
-fn answer(chunk: &[u8], line: &mut OpenLine, bytes: &mut [u8; 262144]) -> usize
-    requires { length chunk.now ≤ 4096 }
-    ensures { result ≤ 262144 }
+#[tactic(auto, using(datelines::proofs::Streams::last_length))]
+fn answer(chunk: &[u8], line: &mut OpenLine, bytes: &mut [u8; ROOM]) -> usize
+    requires { length chunk.now ≤ READ }
+    ensures { result ≤ ROOM }
 {
-    let mut output = Output { bytes, at: 0 };
-    if chunk.len() == 0 {
+    let mut output = Output::new(bytes);
+    if chunk.is_empty() {
         line.finish(&mut output);
         return output.at;
     }
@@ -46,9 +52,9 @@ fn answer(chunk: &[u8], line: &mut OpenLine, bytes: &mut [u8; 262144]) -> usize
 // more may come.
 fn take_turn(
     rt: &HostRuntime,
-    input: &mut [u8; 4096],
+    input: &mut [u8; READ],
     line: &mut OpenLine,
-    bytes: &mut [u8; 262144],
+    bytes: &mut [u8; ROOM],
 ) -> Result<bool, Failure> {
     let n = rt.stdin().read(input).map_err(|_| Failure::Read)?;
     let end = answer(&input[..n], line, bytes);
@@ -60,18 +66,16 @@ fn take_turn(
 
 // A proved loop has to end, and nothing says that an input does: the turns are counted to a number that no run uses up.
 fn main(rt: HostRuntime) {
-    let mut input = [0u8; 4096];
-    let mut line = OpenLine {
-        bytes: [0u8; 33],
-        kept: 0,
-    };
-    let mut bytes = [0u8; 262144];
+    let mut input = [0u8; READ];
+    let mut line = OpenLine::new();
+    let mut bytes = [0u8; ROOM];
     for _ in 0..u64::MAX {
         match take_turn(&rt, &mut input, &mut line, &mut bytes) {
             Ok(true) => (),
             Ok(false) => return,
             Err(failure) => {
-                say(&rt, failure);
+                // Where that fails too, nothing is left to say it on.
+                let _ = eprintln!(rt; "datecheck: {failure}");
                 return;
             }
         }

@@ -17,7 +17,7 @@ use Rattle.writer.specs.Writer.{iso_outcome}
 use Rattle.datelines.specs.Lines.{iso_of_bits, IsTimeBits, Appends}
 use Rattle.datelines.proofs.Runs.{part-stored}
 use Rattle.datelines.proofs.Times.{iso-outcome}
-use Rattle.datelines.proofs.Streams.{iso-length}
+use Rattle.datelines.proofs.Streams.{iso_length}
 
 module _ {bits : ℕ} (b : IsTimeBits bits) (old : Output) (room : HasRoom old 27) {r : Result Text Refusal} {ys : List ℕ}
     (l : Leaves (iso_outcome bits (mid_of old.at (length old.bytes.now - old.at) old.bytes.now)) r ys) where
@@ -35,7 +35,7 @@ module _ {bits : ℕ} (b : IsTimeBits bits) (old : Output) (room : HasRoom old 2
 
   outcome : iso_outcome bits (mid_of i (length out - i) out)
       ≡ record { reply = text_reply bits (length (iso_of_bits bits)); output = iso_of_bits bits ++ drop (length (iso_of_bits bits)) (mid_of i (length out - i) out) }
-  outcome = iso-outcome b (mid_of i (length out - i) out) (rw part (simp length-drop (omega (arith, iso-length bits))))
+  outcome = iso-outcome b (mid_of i (length out - i) out) (rw part (simp length-drop (omega (arith, iso_length bits))))
 
   pub reply-is-text : r ≡ text_reply bits (length (iso_of_bits bits))
   reply-is-text = l.reply-is ∙ ap (λ (o : Outcome). o.reply) outcome
@@ -45,7 +45,7 @@ module _ {bits : ℕ} (b : IsTimeBits bits) (old : Output) (room : HasRoom old 2
 
   stored : {t : Text} → r ≡ Ok t → put_mid i (length out - i) out ys ≡ sets out i (iso_of_bits bits)
   stored e =
-      part-stored (iso_of_bits bits) out i (omega (arith, iso-length bits))
+      part-stored (iso_of_bits bits) out i (omega (arith, iso_length bits))
       (ap (λ (z : List ℕ). take i out ++ z) (ap₂ (λ (x y : List ℕ). x ++ y) written rest ∙ append-nil _))
     where
       written : ys ≡ iso_of_bits bits ++ drop (length (iso_of_bits bits)) (drop i out)

@@ -1,6 +1,5 @@
 pub mod Decimal
 pub mod Runs
-pub mod Sign
 pub mod Times
 pub mod Streams
 pub mod Isos

@@ -65,9 +65,9 @@ emitted-snoc line [] b = append-nil (prints line b)
 emitted-snoc line (a ∷ s) b = ap (λ (t : List ℕ). prints line a ++ t) (emitted-snoc (behind line a) s b) ∙ sym (append_assoc (prints line a) (emitted (behind line a) s) (prints (left (behind line a) s) b))
 
 -- ---- lengths: an answer has no more than 64 bytes
-pub iso-length : (bits : ℕ) → length (iso_of_bits bits) ≤ 27
+pub iso_length : (bits : ℕ) → length (iso_of_bits bits) ≤ 27
 unfolding iso_of_bits
-iso-length bits = go (lengths-iso (trunc_z (of_bits binary64 bits)))
+iso_length bits = go (lengths-iso (trunc_z (of_bits binary64 bits)))
   where
     go : {n : ℕ} → (n ≡ 24) ⊎ (n ≡ 27) → n ≤ 27
     go (inl e) = omega arith
@@ -75,17 +75,17 @@ iso-length bits = go (lengths-iso (trunc_z (of_bits binary64 bits)))
 
 answer-length : (r : Result ℕ Refusal) → length (answer_line r) ≤ 64
 unfolding accepted_line refused_line
-answer-length (Ok bits) = simp length-append (omega (arith, iso-length bits, signed-length (trunc_z (of_bits binary64 bits))))
+answer-length (Ok bits) = simp length-append (omega (arith, iso_length bits, signed-length (trunc_z (of_bits binary64 bits))))
 answer-length (Err f) = simp length-append (omega (arith, within 20 (refusal_number f)))
 
 pub line-length : (text : List ℕ) → length (line_of text) ≤ 64
 unfolding line_of
 line-length text = answer-length (read_outcome (replicate 12 0) text)
 
-pub last-length : (line : List ℕ) → length (last_of line) ≤ 64
+pub last_length : (line : List ℕ) → length (last_of line) ≤ 64
 unfolding last_of
-last-length [] = omega arith
-last-length (b ∷ s) = line-length (b ∷ s)
+last_length [] = omega arith
+last_length (b ∷ s) = line-length (b ∷ s)
 
 pub prints-length : (line : List ℕ) (b : ℕ) → length (prints line b) ≤ 64
 unfolding prints

@@ -2,39 +2,28 @@
 // The program reads and writes; all else is here, on slices.
 #![tactic(auto)]
 
+ghost use Rattle.std.specs.Prelude.{◌≡◌, ◌≤◌, length};
+ghost use Rattle.std.specs.Float.{binary64};
+ghost use Rattle.std.specs.Float.Ieee.{of_bits};
+ghost use Rattle.float.specs.Whole.{trunc_z};
 ghost use Rattle.text.specs.Inner.{HasRoom, Appended};
-ghost use Rattle.datelines.specs.Lines.{decimal, signed_decimal, iso_of_bits, accepted_line, refused_line, newline, line_of, last_of, IsTimeBits, Appends};
+ghost use Rattle.datelines.specs.Lines.{iso_of_bits, accepted_line, refused_line, newline, line_of, last_of, IsTimeBits, Appends};
 
 mod open_line;
 
+use itoa::{Buffer, Integer};
 pub use open_line::OpenLine;
 use text::Output;
 
 // ---- a line's answer
 
-fn put_decimal(n: u64, output: &mut Output)
-    requires { HasRoom output.old 20 }
-    ensures { Appends output.old (decimal n) output.new }
+// A number in decimal.
+fn put_number<I: Integer>(n: I, output: &mut Output)
+    requires { HasRoom output.old I.MAX_STR_LEN }
+    ensures digits { Appends output.old (I.text n) output.new }
+    ensures short { length (I.text n) ≤ I.MAX_STR_LEN }
 {
-    if n < 10 {
-        output.put(b'0' + n as u8);
-    } else {
-        put_decimal(n / 10, output);
-        output.put(b'0' + (n % 10) as u8);
-    }
-}
-
-fn put_signed(x: i64, output: &mut Output)
-    requires { HasRoom output.old 21 }
-    ensures { Appends output.old (signed_decimal x) output.new }
-{
-    let n = x.unsigned_abs();
-    if x < 0 {
-        output.put(b'-');
-        put_decimal(n, output);
-    } else {
-        put_decimal(n, output);
-    }
+    output.put_all(Buffer::new().format(n).as_bytes());
 }
 
 fn put_iso(bits: u64, output: &mut Output)
@@ -52,12 +41,22 @@ fn end_line(output: &mut Output)
     output.put(b'\n');
 }
 
+// The time that the bits stand for.
+#[tactic(auto, using(crate::proofs::Times::cast_time))]
+fn time_of(bits: u64) -> i64
+    requires { IsTimeBits bits }
+    ensures { result ≡ trunc_z (of_bits binary64 bits) }
+{
+    float::as_i64(float::of_bits(bits))
+}
+
+#[tactic(auto, using(crate::proofs::Streams::iso_length))]
 fn put_accepted(bits: u64, output: &mut Output)
     requires { IsTimeBits bits × HasRoom output.old 64 }
     ensures { Appends output.old (accepted_line bits) output.new }
 {
     output.put_all(b"0 ");
-    put_signed(float::as_i64(float::of_bits(bits)), output);
+    put_number(time_of(bits), output);
     output.put(b' ');
     put_iso(bits, output);
     end_line(output);
@@ -67,7 +66,7 @@ fn put_refused(number: u32, output: &mut Output)
     requires { HasRoom output.old 64 }
     ensures { Appends output.old (refused_line number) output.new }
 {
-    put_decimal(number as u64, output);
+    put_number(number, output);
     end_line(output);
 }
 
@@ -89,7 +88,7 @@ pub fn finish(line: &[u8], output: &mut Output)
     requires { HasRoom output.old 64 }
     ensures { Appends output.old (last_of line.now) output.new }
 {
-    if line.len() == 0 {
+    if line.is_empty() {
         return;
     }
     put_line(line, output);

@@ -1,4 +1,5 @@
 ghost use Rattle.std.specs.Prelude.{◌≤◌};
+ghost use Rattle.datelines.specs.declared.open_line.TheConstants.{MOST_KEPT};
 
 use crate::{finish, put_line};
 use text::Output;
@@ -12,17 +13,27 @@ const MOST_KEPT: usize = 33;
 // The line that is open: the first `kept` bytes are its own, the others are as earlier lines left them.
 #[derive(Clone, Copy)]
 pub struct OpenLine {
-    pub bytes: [u8; 33],
+    pub bytes: [u8; MOST_KEPT],
     pub kept: usize,
-    ghost few: { kept ≤ 33 },
+    pub ghost few: { kept ≤ MOST_KEPT },
 }
 
 impl OpenLine {
-    ghost use Rattle.std.specs.Prelude.{◌*◌, length};
+    ghost use Rattle.std.specs.Prelude.{◌≡◌, ◌*◌, [], length};
     ghost use Rattle.std.proofs.lemmas.List.Edits.{sets};
     ghost use Rattle.text.specs.Inner.{HasRoom};
     ghost use Rattle.datelines.specs.Lines.{behind, prints, emitted, left, lent, last_of, Appends};
     ghost use Rattle.datelines.specs.Fed.{begun, Feeds};
+
+    // No line is open.
+    pub fn new() -> OpenLine
+        ensures { begun result ≡ [] }
+    {
+        OpenLine {
+            bytes: [0; MOST_KEPT],
+            kept: 0,
+        }
+    }
 
     // Takes in a byte.
     fn take_in(&mut self, b: u8, output: &mut Output)

@@ -3,18 +3,19 @@
 // name; its archive is for the differential run alone.
 #![tactic(auto)]
 
-ghost use Rattle.std.specs.Prelude.{◌≡◌, ◌+◌, ◌%◌, ◌^◌, Float};
+ghost use Rattle.std.specs.Prelude.{◌≡◌, ◌+◌, ◌%◌, ◌^◌, Float, List, ℕ};
+ghost use Rattle.std.specs.Fn.{FnOnceReturnsAtMut};
 ghost use Rattle.std.specs.Float.{binary64};
 ghost use Rattle.std.specs.Float.Ieee.{of_bits, to_bits, to_unsigned, to_signed};
 ghost use Rattle.ecma262.specs.Digits.{digits};
 ghost use Rattle.float.specs.Rounding.{floor_f, trunc_f, abs_f, copysign_f, rem_euclid_f};
 ghost use Rattle.calendar.specs.Calendar.{day_f, time_within_day_f, days_in_year_f, day_from_year_f, time_from_year_f, year_from_time_f, day_within_year_f, in_leap_year_f, month_from_time_f, date_from_time_f, week_day_f, hour_from_time_f, min_from_time_f, sec_from_time_f, ms_from_time_f};
 ghost use Rattle.make.specs.Make.{make_time_f, make_day_f, make_date_f, make_full_year_f, time_clip_f};
-ghost use Rattle.little_endian.specs.Bytes.{twos_complement};
+ghost use Rattle.little_endian.specs.Bytes.{twos_complement, little_endian};
 ghost use Rattle.zone.specs.Zone.{records, offset_at};
 ghost use Rattle.local.specs.Local.{offset_seconds_f, local_time_f, utc_f};
 ghost use Rattle.fast_atoi.specs.Inner.{moved, join4, join8};
-ghost use Rattle.exports.specs.Inner.{Given, Handed, Whole, Packed, word, under_list};
+ghost use Rattle.exports.specs.Inner.{Given, Handed, Whole, Packed, word, under_list, eight_zeros};
 
 use text::Output;
 use zone::ZoneList;
@@ -69,13 +70,13 @@ pub fn exports_rem_euclid(x: u64, by: u64) -> u64
 pub fn exports_as_u8(x: u64) -> u64
     ensures { Given x (λ (x : Float). result ≡ to_unsigned 8 x) }
 {
-    float::as_u8(float::of_bits(x)) as u64
+    u64::from(float::as_u8(float::of_bits(x)))
 }
 
 pub fn exports_as_u16(x: u64) -> u64
     ensures { Given x (λ (x : Float). result ≡ to_unsigned 16 x) }
 {
-    float::as_u16(float::of_bits(x)) as u64
+    u64::from(float::as_u16(float::of_bits(x)))
 }
 
 pub fn exports_as_i32(x: u64) -> u64
@@ -107,7 +108,7 @@ pub fn exports_time_within_day(t: u64) -> u64
 pub fn exports_days_in_year(y: u64) -> u64
     ensures { Given y (λ (y : Float). result ≡ days_in_year_f y) }
 {
-    calendar::days_in_year(float::of_bits(y)) as u64
+    u64::from(calendar::days_in_year(float::of_bits(y)))
 }
 
 pub fn exports_day_from_year(y: u64) -> u64
@@ -131,55 +132,55 @@ pub fn exports_year_from_time(t: u64) -> u64
 pub fn exports_day_within_year(t: u64) -> u64
     ensures { Given t (λ (t : Float). result ≡ day_within_year_f t) }
 {
-    calendar::day_within_year(float::of_bits(t)) as u64
+    u64::from(calendar::day_within_year(float::of_bits(t)))
 }
 
 pub fn exports_in_leap_year(t: u64) -> u64
     ensures { Given t (λ (t : Float). result ≡ in_leap_year_f t) }
 {
-    calendar::in_leap_year(float::of_bits(t)) as u64
+    u64::from(calendar::in_leap_year(float::of_bits(t)))
 }
 
 pub fn exports_month_from_time(t: u64) -> u64
     ensures { Given t (λ (t : Float). result ≡ month_from_time_f t) }
 {
-    calendar::month_from_time(float::of_bits(t)) as u64
+    u64::from(calendar::month_from_time(float::of_bits(t)))
 }
 
 pub fn exports_date_from_time(t: u64) -> u64
     ensures { Given t (λ (t : Float). result ≡ date_from_time_f t) }
 {
-    calendar::date_from_time(float::of_bits(t)) as u64
+    u64::from(calendar::date_from_time(float::of_bits(t)))
 }
 
 pub fn exports_week_day(t: u64) -> u64
     ensures { Given t (λ (t : Float). result ≡ week_day_f t) }
 {
-    calendar::week_day(float::of_bits(t)) as u64
+    u64::from(calendar::week_day(float::of_bits(t)))
 }
 
 pub fn exports_hour_from_time(t: u64) -> u64
     ensures { Given t (λ (t : Float). result ≡ hour_from_time_f t) }
 {
-    calendar::hour_from_time(float::of_bits(t)) as u64
+    u64::from(calendar::hour_from_time(float::of_bits(t)))
 }
 
 pub fn exports_min_from_time(t: u64) -> u64
     ensures { Given t (λ (t : Float). result ≡ min_from_time_f t) }
 {
-    calendar::min_from_time(float::of_bits(t)) as u64
+    u64::from(calendar::min_from_time(float::of_bits(t)))
 }
 
 pub fn exports_sec_from_time(t: u64) -> u64
     ensures { Given t (λ (t : Float). result ≡ sec_from_time_f t) }
 {
-    calendar::sec_from_time(float::of_bits(t)) as u64
+    u64::from(calendar::sec_from_time(float::of_bits(t)))
 }
 
 pub fn exports_ms_from_time(t: u64) -> u64
     ensures { Given t (λ (t : Float). result ≡ ms_from_time_f t) }
 {
-    calendar::ms_from_time(float::of_bits(t)) as u64
+    u64::from(calendar::ms_from_time(float::of_bits(t)))
 }
 
 // ---- the makers
@@ -229,7 +230,7 @@ pub fn exports_time_clip(time: u64) -> u64
 pub fn exports_zone_accepted(zone: &[u8]) -> u64
     ensures { result ≡ under_list zone.now 1 }
 {
-    ZoneList::accept(zone).is_some() as u64
+    u64::from(ZoneList::accept(zone).is_some())
 }
 
 #[tactic(auto, unfolding(crate::specs::Inner::under_list))]
@@ -273,10 +274,10 @@ pub fn exports_utc_t(zone: &[u8], t: u64) -> u64
 pub fn exports_process_4(val: u64, len: u64) -> u64
     ensures { result ≡ join4 (moved 32 ((len % 4 + 3) % 4 + 1) (val % 2 ^ 32)) }
 {
-    fast_atoi::process_4(
+    u64::from(fast_atoi::process_4(
         (val % 0x1_0000_0000) as u32,
         ((len % 4 + 3) % 4 + 1) as usize,
-    ) as u64
+    ))
 }
 
 pub fn exports_process_8(val: u64, len: u64) -> u64
@@ -285,72 +286,42 @@ pub fn exports_process_8(val: u64, len: u64) -> u64
     fast_atoi::process_8(val, ((len % 8 + 7) % 8 + 1) as usize)
 }
 
+// What is stored into eight bytes of 0, as a word.
+fn packed<F: FnOnce(&mut [u8])>(store: F) -> u64
+    requires { (bytes : _) → (bytes.now ≡ eight_zeros) → F.pre store bytes }
+    ensures { (bytes : List ℕ) × FnOnceReturnsAtMut F.FnOnce store eight_zeros tt bytes × (result ≡ little_endian 8 bytes 0) }
+{
+    let mut bytes = [0u8; 8];
+    store(&mut bytes);
+    little_endian::u64_at(&bytes, 0)
+}
+
 pub fn exports_pad_two(t: u64) -> u64
     ensures { Packed (digits 2 (t % 100)) 2 result }
 {
-    let mut bytes = [0u8; 8];
-    text::pad_two(
-        (t % 100) as u8,
-        &mut Output {
-            bytes: &mut bytes,
-            at: 0,
-        },
-    );
-    little_endian::u64_at(&bytes, 0)
+    packed(|bytes| text::pad_two((t % 100) as u8, &mut Output::new(bytes)))
 }
 
 pub fn exports_pad_three(t: u64) -> u64
     ensures { Packed (digits 3 (t % 1000)) 3 result }
 {
-    let mut bytes = [0u8; 8];
-    text::pad_three(
-        (t % 1000) as u16,
-        &mut Output {
-            bytes: &mut bytes,
-            at: 0,
-        },
-    );
-    little_endian::u64_at(&bytes, 0)
+    packed(|bytes| text::pad_three((t % 1000) as u16, &mut Output::new(bytes)))
 }
 
 pub fn exports_pad_four(t: u64) -> u64
     ensures { Packed (digits 4 (t % 10000)) 4 result }
 {
-    let mut bytes = [0u8; 8];
-    text::pad_four(
-        (t % 10000) as u32,
-        &mut Output {
-            bytes: &mut bytes,
-            at: 0,
-        },
-    );
-    little_endian::u64_at(&bytes, 0)
+    packed(|bytes| text::pad_four((t % 10000) as u32, &mut Output::new(bytes)))
 }
 
 pub fn exports_pad_five(t: u64) -> u64
     ensures { Packed (digits 5 (t % 100000)) 5 result }
 {
-    let mut bytes = [0u8; 8];
-    text::pad_five(
-        (t % 100000) as u32,
-        &mut Output {
-            bytes: &mut bytes,
-            at: 0,
-        },
-    );
-    little_endian::u64_at(&bytes, 0)
+    packed(|bytes| text::pad_five((t % 100000) as u32, &mut Output::new(bytes)))
 }
 
 pub fn exports_pad_six(t: u64) -> u64
     ensures { Packed (digits 6 (t % 1000000)) 6 result }
 {
-    let mut bytes = [0u8; 8];
-    text::pad_six(
-        (t % 1000000) as u32,
-        &mut Output {
-            bytes: &mut bytes,
-            at: 0,
-        },
-    );
-    little_endian::u64_at(&bytes, 0)
+    packed(|bytes| text::pad_six((t % 1000000) as u32, &mut Output::new(bytes)))
 }

@@ -33,15 +33,15 @@ no_place n t =
       written = rw e (ap (λ (k : ℕ). drop k (replicate {A = ℕ} n 48)) (sym l) ∙ drop-length (replicate {A = ℕ} n 48));
     }
 
-pub next_place : (n t i rest : ℕ) (bytes : List ℕ) → 0 < i → i ≤ n → FromPlace n t i rest bytes → FromPlace n t (i - 1) (rest / 10) (set bytes (i - 1) (48 + rest % 10))
-next_place n t i rest bytes some within p =
+pub next_place : (n t i rest d : ℕ) (bytes : List ℕ) → d ≡ 48 + rest % 10 → 0 < i → i ≤ n → FromPlace n t i rest bytes → FromPlace n t (i - 1) (rest / 10) (set bytes (i - 1) d)
+next_place n t i rest d bytes is some within p =
     let places : n - (i - 1) ≡ suc (n - i) = omega arith in
     let h : i - 1 < length bytes = omega (arith, p.long) in
     let j : i - 1 + 1 ≡ i = omega arith in
     record {
-      long = length-set bytes (i - 1) (48 + rest % 10) ∙ p.long;
+      long = length-set bytes (i - 1) d ∙ p.long;
       rest-is = rw (places, pow-suc, p.rest-is) (div-div-eq-div-mul t (10 ^ (n - i)) 10);
-      written = drop-set bytes (i - 1) (48 + rest % 10) h ∙ rw (j, p.written, places, p.rest-is) (first (n - i) t);
+      written = drop-set bytes (i - 1) d h ∙ rw (is, j, p.written, places, p.rest-is) (first (n - i) t);
     }
 
 pub all_places : (n t i rest : ℕ) (bytes : List ℕ) → i ≤ 0 → FromPlace n t i rest bytes → bytes ≡ digits n t

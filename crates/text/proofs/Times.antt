@@ -9,7 +9,7 @@ use Rattle.ecma262.proofs.Clock.{week-day-small}
 use Rattle.ecma262.proofs.Written.{year-small, month-days}
 use Rattle.text.specs.Fields.{Printable}
 
-fields-printable : (f : Fields) (w : ℕ) → Valid f → nat_abs f.year ≤ 999999 → w < 7 → Printable f.year f.month f.date f.hour f.minute f.second f.ms w
+pub fields-printable : (f : Fields) (w : ℕ) → Valid f → nat_abs f.year ≤ 999999 → w < 7 → Printable f.year f.month f.date f.hour f.minute f.second f.ms w
 fields-printable f w v y d =
     record {
       year-ok = y;

@@ -11,5 +11,5 @@ pub struct DateFields {
     pub second: u8,
     pub weekday: u8,
     pub ms: u16,
-    ghost printable: { Printable year month date hour minute second ms weekday },
+    pub ghost printable: { Printable year month date hour minute second ms weekday },
 }

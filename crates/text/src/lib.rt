@@ -25,14 +25,14 @@ pub fn pad_two(t: u8, output: &mut Output)
     requires { (t < 100) × HasRoom output.old 2 }
     ensures { Appended output.old (digits 2 t) 2 output.new }
 {
-    pad::<2>(t as u32, output);
+    pad::<2>(u32::from(t), output);
 }
 
 pub fn pad_three(t: u16, output: &mut Output)
     requires { (t < 1000) × HasRoom output.old 3 }
     ensures { Appended output.old (digits 3 t) 3 output.new }
 {
-    pad::<3>(t as u32, output);
+    pad::<3>(u32::from(t), output);
 }
 
 pub fn pad_four(t: u32, output: &mut Output)
@@ -72,7 +72,7 @@ pub fn day_name(weekday: u8) -> [u8; 3]
     requires { weekday < 7 }
     ensures { result ≡ day_name weekday }
 {
-    DAY_NAMES[weekday as usize]
+    DAY_NAMES[usize::from(weekday)]
 }
 
 #[tactic(auto, unfolding(ecma262::specs::Texts::month_name))]
@@ -80,7 +80,7 @@ pub fn month_name(month: u8) -> [u8; 3]
     requires { month < 12 }
     ensures { result ≡ month_name month }
 {
-    MONTH_NAMES[month as usize]
+    MONTH_NAMES[usize::from(month)]
 }
 
 pub fn put_name(name: [u8; 3], output: &mut Output)
@@ -115,10 +115,7 @@ fn put_clock(f: DateFields, output: &mut Output)
 fn iso_year_length(year: i32) -> usize
     ensures { (length (iso_year year) ≡ result) × (result ≤ 7) }
 {
-    if year < 0 {
-        return 7;
-    }
-    if year.unsigned_abs() < 10000 { 4 } else { 7 }
+    if (0..10000).contains(&year) { 4 } else { 7 }
 }
 
 // Four digits, or a sign and six.
@@ -127,14 +124,16 @@ fn put_iso_year(year: i32, output: &mut Output)
     ensures { Appended output.old (iso_year year) (length (iso_year year)) output.new }
 {
     let y = year.unsigned_abs();
-    if year < 0 {
-        output.put(b'-');
-        pad_six(y, output);
-    } else if y < 10000 {
-        pad_four(y, output);
-    } else {
-        output.put(b'+');
-        pad_six(y, output);
+    match year {
+        ..0 => {
+            output.put(b'-');
+            pad_six(y, output);
+        }
+        0..=9999 => pad_four(y, output),
+        _ => {
+            output.put(b'+');
+            pad_six(y, output);
+        }
     }
 }
 
@@ -169,10 +168,7 @@ pub fn iso_string(f: DateFields, output: &mut [u8]) -> Option<usize>
     if output.len() < length {
         return None;
     }
-    let mut text = Output {
-        bytes: output,
-        at: 0,
-    };
+    let mut text = Output::new(output);
     put_iso_year(f.year, &mut text);
     put_iso_date(f, &mut text);
     put_iso_time(f, &mut text);
@@ -181,13 +177,15 @@ pub fn iso_string(f: DateFields, output: &mut [u8]) -> Option<usize>
 
 // ---- the year of the UTC and the local text
 
+#[tactic(auto, using(crate::proofs::Tested::four_padded, crate::proofs::Tested::five_padded, crate::proofs::Tested::six_padded))]
 fn padded_length(y: u32) -> usize
     ensures { (length (padded_year y) ≡ result) × (4 ≤ result) × (result ≤ 6) }
 {
-    if y < 10000 {
-        return 4;
+    match y {
+        0..=9999 => 4,
+        10000..=99999 => 5,
+        _ => 6,
     }
-    if y < 100000 { 5 } else { 6 }
 }
 
 // At least four digits.
@@ -195,12 +193,10 @@ fn put_padded_year(y: u32, output: &mut Output)
     requires { (y < 1000000) × HasRoom output.old 6 }
     ensures { Appended output.old (padded_year y) (length (padded_year y)) output.new }
 {
-    if y < 10000 {
-        pad_four(y, output);
-    } else if y < 100000 {
-        pad_five(y, output);
-    } else {
-        pad_six(y, output);
+    match y {
+        0..=9999 => pad_four(y, output),
+        10000..=99999 => pad_five(y, output),
+        _ => pad_six(y, output),
     }
 }
 
@@ -303,10 +299,7 @@ pub fn utc_string(f: DateFields, output: &mut [u8]) -> Option<usize>
     if output.len() < length {
         return None;
     }
-    let mut text = Output {
-        bytes: output,
-        at: 0,
-    };
+    let mut text = Output::new(output);
     put_utc_head(f, &mut text);
     put_year_and_time(f, &mut text);
     Some(length)
@@ -321,10 +314,7 @@ pub fn local_string(f: DateFields, offset: i32, output: &mut [u8]) -> Option<usi
     if output.len() < length {
         return None;
     }
-    let mut text = Output {
-        bytes: output,
-        at: 0,
-    };
+    let mut text = Output::new(output);
     put_local_head(f, &mut text);
     put_year_and_time(f, &mut text);
     time_zone_string(offset, &mut text);
@@ -333,16 +323,15 @@ pub fn local_string(f: DateFields, offset: i32, output: &mut [u8]) -> Option<usi
 
 // ---- a text as it stands
 
-// The one way of putting a text that is at hand into a lent output.
+// A text that is at hand, into a lent output.
 pub fn put_text(text: &[u8], output: &mut [u8]) -> Option<usize>
     ensures { Prints text.now output.old output.new result }
 {
-    let n = text.len();
-    if output.len() < n {
+    if output.len() < text.len() {
         return None;
     }
-    output[..n].copy_from_slice(text);
-    Some(n)
+    Output::new(output).put_all(text);
+    Some(text.len())
 }
 
 // `Invalid Date`.

@@ -8,8 +8,17 @@ pub struct Output<'a> {
     pub at: usize,
 }
 
-impl Output<'_> {
+impl<'a> Output<'a> {
     ghost use Rattle.text.specs.Inner.{HasRoom, Appended};
+
+    // The place is the start of the bytes.
+    pub fn new(bytes: &'a mut [u8]) -> Output<'a>
+        ensures at_start { result.at ≡ 0 }
+        ensures same_bytes { result.bytes.now ≡ bytes.old }
+        ensures same_reference { result.bytes.ghost_name ≡ bytes.entry.ghost_name }
+    {
+        Output { bytes, at: 0 }
+    }
 
     pub fn put(&mut self, b: u8)
         requires { HasRoom self.old 1 }

@@ -46,6 +46,7 @@ fn reply(value: u64, printed: Option<usize>) -> Result<Text, Refusal>
 }
 
 // The ISO text, and below it the UTC text, of a whole time.
+#[tactic(auto, unfolding(crate::specs::Outcome::written))]
 pub fn write_iso(t: f64, output: &mut [u8]) -> Result<Text, Refusal>
     requires { IsShown t }
     ensures { Leaves (written (to_bits binary64 t) (iso_text (trunc_z t)) output.old) result output.new }
@@ -54,6 +55,7 @@ pub fn write_iso(t: f64, output: &mut [u8]) -> Result<Text, Refusal>
     reply(float::bits_of(t), printed)
 }
 
+#[tactic(auto, unfolding(crate::specs::Outcome::written))]
 pub fn write_utc(t: f64, output: &mut [u8]) -> Result<Text, Refusal>
     requires { IsShown t }
     ensures { Leaves (written (to_bits binary64 t) (utc_text (trunc_z t)) output.old) result output.new }
@@ -77,6 +79,7 @@ pub fn to_date_string_t(tv: f64, zone: ZoneList, output: &mut [u8]) -> Result<Te
 }
 
 // The text of NaN.
+#[tactic(auto, unfolding(crate::specs::Outcome::written))]
 fn write_invalid(output: &mut [u8]) -> Result<Text, Refusal>
     ensures { Leaves (written nan_value invalid_date output.old) result output.new }
 {
@@ -85,6 +88,7 @@ fn write_invalid(output: &mut [u8]) -> Result<Text, Refusal>
 }
 
 // Date.prototype.toISOString
+#[tactic(auto, unfolding(crate::specs::Writer::iso_outcome))]
 pub fn to_iso_string(time: u64, output: &mut [u8]) -> Result<Text, Refusal>
     ensures { Leaves (iso_outcome time output.old) result output.new }
 {
@@ -95,6 +99,7 @@ pub fn to_iso_string(time: u64, output: &mut [u8]) -> Result<Text, Refusal>
 }
 
 // Date.prototype.toUTCString
+#[tactic(auto, unfolding(crate::specs::Writer::utc_outcome))]
 pub fn to_utc_string(time: u64, output: &mut [u8]) -> Result<Text, Refusal>
     ensures { Leaves (utc_outcome time output.old) result output.new }
 {
@@ -105,12 +110,11 @@ pub fn to_utc_string(time: u64, output: &mut [u8]) -> Result<Text, Refusal>
 }
 
 // Date.prototype.toString, by ToDateString
+#[tactic(auto, unfolding(crate::specs::Writer::local_outcome))]
 pub fn to_string(zone: &[u8], time: u64, output: &mut [u8]) -> Result<Text, Refusal>
     ensures { Leaves (local_outcome zone.now time output.old) result output.new }
 {
-    let Some(list) = ZoneList::accept(zone) else {
-        return Err(Refusal::ZoneList);
-    };
+    let list = ZoneList::accept(zone).ok_or(Refusal::ZoneList)?;
     match timevalue::time_value(time).ok_or(Refusal::TimeValue)? {
         TimeValue::Nan => write_invalid(output),
         TimeValue::Time(t) => to_date_string_t(t, list, output),

@@ -1,5 +1,4 @@
 -- `text::iso_string` meets its contract: year, date and time stand one behind the other. Assumes nothing.
-use mathlib.Core.Path.{refl}
 use native.Mathlib.Omega.{arith}
 use lib.ListN.{length}
 use mathlib.Core.Path.{◌≡◌}
@@ -14,4 +13,4 @@ returns c =
     let fits = year-fits c.args.f.year c.args.f.printable.year-ok in
     let n = at-fitting (λ y. length (iso_year y) ≡ c.iso_year_length-length.result) fits c.iso_year_length-length.ensures.0 in
     prints_whole (appended_then (appended_then (put-fitting iso_year fits c.put_iso_year.ensures) c.put_iso_date.ensures) c.put_iso_time.ensures)
-    refl refl (search rules) (omega (arith, n)) (omega arith)
+    c.new-text.ensures.same_bytes c.new-text.ensures.at_start (search rules) (omega (arith, n)) (omega arith)

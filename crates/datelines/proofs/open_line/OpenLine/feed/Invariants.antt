@@ -4,4 +4,4 @@ use Rattle.datelines.proofs.Bytes.{FedTo}
 use Rattle.datelines.proofs.open_line.OpenLine.feed.Given as goal
 
 abbrev pub invariant-loop-b : goal.invariant-loop-b
-invariant-loop-b l = FedTo l.chunk l.initial.self l.initial.output l.b-index l.self l.output
+invariant-loop-b l = FedTo l.chunk l.fn.self l.fn.output l.b-index l.self l.output
