@@ -12,27 +12,27 @@ pub const NAN_VALUE: u64 = 0x7FF8_0000_0000_0000;
 #[derive(Clone, Copy, Debug, PartialEq, Eq)]
 pub enum Refusal {
     // Zone list: length, order or offset outside its rule.
-    ZoneList,
+    ZoneList = 1,
     // Time value: infinite, fractional or beyond the range.
-    TimeValue,
+    TimeValue = 2,
     // Field record: empty, or not 1 + 8 × ones.
-    RecordLength,
+    RecordLength = 3,
     // Field record: a bit that the call hasn't got.
-    RecordMap,
+    RecordMap = 4,
     // Text: it ends where a byte is needed.
-    TextEnds,
+    TextEnds = 5,
     // Text: a byte not allowed there.
-    TextByte,
+    TextByte = 6,
     // Text: a field outside its bounds, -000000, or hour 24 with a smaller field not 0.
-    TextField,
+    TextField = 7,
     // Text: a byte after the form.
-    TextRest,
+    TextRest = 8,
     // The instant of a text is outside the range.
-    Instant,
+    Instant = 9,
     // ISO writer: NaN.
-    NoTime,
+    NoTime = 10,
     // The output is shorter than the text.
-    Output,
+    Output = 11,
 }
 
 // A text of `length` bytes was written for a time value, which is given by its bits.
@@ -56,19 +56,7 @@ impl From<Refusal> for u32 {
     ghost from_gives = { λ f number. number ≡ refusal_number f };
 
     fn from(f: Refusal) -> u32 {
-        match f {
-            Refusal::ZoneList => 1,
-            Refusal::TimeValue => 2,
-            Refusal::RecordLength => 3,
-            Refusal::RecordMap => 4,
-            Refusal::TextEnds => 5,
-            Refusal::TextByte => 6,
-            Refusal::TextField => 7,
-            Refusal::TextRest => 8,
-            Refusal::Instant => 9,
-            Refusal::NoTime => 10,
-            Refusal::Output => 11,
-        }
+        f as u32
     }
 }
 
