@@ -53,27 +53,6 @@ lt-false {a} {b} e = lt_z_no (false-T (lt_z a b) e)
 pub kept : {w : Width} {z : ℤ} → SFits w z → to_z w (of_z w z) ≡ z
 kept f = to_z-of_z f
 
--- what an operation g makes of a number that is first widened, read back from its bits
-pub record Widened (v w : Width) (g : ℤ → ℤ) (x : ℤ) : Type 0 where
-  pub widened : SFits w (to_z v (of_z v x))
-  pub made : SFits w (g (to_z w (of_z w (to_z v (of_z v x)))))
-  pub value : to_z w (of_z w (g (to_z w (of_z w (to_z v (of_z v x)))))) ≡ g x
-
-pub widen : {v w : Width} (g : ℤ → ℤ) (x : ℤ) → SFits v x → SFits w x → SFits w (g x) → Widened v w g x
-widen {v} {w} g x f h k =
-    record {
-      widened = subst (SFits w) (sym (kept f)) h;
-      made = subst (λ z. SFits w (g z)) (sym same) k;
-      value = ap (λ z. to_z w (of_z w (g z))) same ∙ kept k;
-    }
-  where
-    same : to_z w (of_z w (to_z v (of_z v x))) ≡ x
-    same = ap (λ z. to_z w (of_z w z)) (kept f) ∙ kept h
-
--- an i32 is an i64
-pub fits32-64 : {x : ℤ} → SFits w32 x → SFits w64 x
-fits32-64 f = record { sfits = omega (arith, f.sfits) }
-
 -- ---- a signed number by its sign and its magnitude
 
 -- what a test says of a number's bits, it says of the number
