@@ -2,12 +2,14 @@
 use mathlib.Core.Path.{◌≡◌, refl, sym, ap, ◌∙◌}
 use mathlib.Core.Bool.{Bool, true, false, cond, ◌&&◌}
 use Prim.Native.Nat.{ℕ}
-use lib.Ieee.{Float, nan, binary64, add, sub, mul, lt, le, is_nan}
+use lib.Ieee.{Float, nan, binary64, fits, of_bits, of_int, add, sub, mul, lt, le, is_nan}
 use lib.Ieee.Scale.{finite}
 use Rattle.std.specs.Float.{float_is_finite}
 use Rattle.float.specs.Rounding.{trunc_f, abs_f, to_integer_or_infinity, plus_zero}
 use Rattle.calendar.specs.Calendar.{num, day_f}
 use Rattle.float.proofs.Special.{finite_is}
+use Rattle.float.proofs.Integer.{integer-is}
+use Rattle.integers.proofs.Machine.{true-T}
 use Rattle.make.proofs.Finite.{summand-left, summand-right, factor, uncut}
 use Rattle.make.specs.Make.{whole_part, join_time, make_time_f, year_of_month, month_of_year, month_start_f, day_of_month_f, make_day_f, if_finite, make_date_f, full_year, make_full_year_f, time_clip_f}
 
@@ -157,3 +159,10 @@ module _ (t : Float) where
   pub clip-within : finite t ≡ true → lt (num 8640000000000000) (abs_f t) ≡ false → time_clip_f t ≡ plus_zero (trunc_f t)
   unfolding time_clip_f
   clip-within a b = λ i. cond (a i) (cond (b i) nan (plus_zero (trunc_f t))) nan
+
+  -- as the code finds it: r is ToIntegerOrInfinity of the time, and m its magnitude
+  pub clip_integer : (r m : Float) → r ≡ to_integer_or_infinity t → lt (of_bits binary64 4845505999795912704) m ≡ false → m ≡ abs_f t → float_is_finite t ≡ true → fits binary64 t ≡ true → r ≡ time_clip_f t
+  unfolding of_bits of_int
+  clip_integer r m e l is f held =
+      let b = on t refl f in
+      e ∙ integer-is t (true-T _ held) (true-T _ b) ∙ sym (clip-within b (ap (lt (num 8640000000000000)) (sym is) ∙ l))

@@ -144,6 +144,7 @@ pub fn make_full_year(year: f64) -> f64
 }
 
 // TimeClip(time)
+#[tactic(auto, using(crate::proofs::Tests::clip_integer))]
 pub fn time_clip(time: f64) -> f64
     ensures { result ≡ time_clip_f time }
 {

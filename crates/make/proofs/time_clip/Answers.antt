@@ -2,10 +2,9 @@
 use mathlib.Core.Path.{sym, ap, ◌∙◌}
 use lib.Ieee.{binary64, fits, lt, of_bits, of_int}
 use Rattle.integers.proofs.Machine.{true-T}
-use Rattle.float.proofs.Integer.{integer-is}
 use Rattle.calendar.specs.Calendar.{num}
 use Rattle.make.proofs.Clip.{clip-own}
-use Rattle.make.proofs.Tests.{off, on, clip-not-finite, clip-beyond, clip-within}
+use Rattle.make.proofs.Tests.{off, on, clip-not-finite, clip-beyond}
 use Rattle.make.proofs.time_clip.Goals as goal
 
 pub returns-then-is_whole_within : goal.returns-then-is_whole_within
@@ -24,11 +23,3 @@ unfolding of_bits of_int
 returns-then-abs c =
     let t = c.args.time in
     sym (clip-beyond t (on _ c.is_finite.ensures.value c.if-not-is_finite.false) (ap (lt (num 8640000000000000)) (sym c.abs.ensures) ∙ c.if-abs.true))
-
-pub returns : goal.returns
-unfolding of_bits of_int
-returns c =
-    let t = c.args.time in
-    let finite = on _ c.is_finite.ensures.value c.if-not-is_finite.false in
-    c.to_integer_or_infinity.ensures ∙ integer-is t (true-T (fits binary64 t) c.well_formed.0.1) (true-T _ finite)
-    ∙ sym (clip-within t finite (ap (lt (num 8640000000000000)) (sym c.abs.ensures) ∙ c.if-abs.false))
