@@ -40,8 +40,8 @@ module _ {bits : ℕ} (b : IsTimeBits bits) where
   whole-time = ap trunc_z back ∙ trunc_z-whole whole
 
   -- cast to 64 bits it is that number
-  pub cast_time : to_signed 63 (of_bits binary64 bits) ≡ trunc_z (of_bits binary64 bits)
-  cast_time = let h : InRange b.time = b.inside in ap (to_signed 63) back ∙ to_signed-whole 63 whole (mag-small b.time h) ∙ sym whole-time
+  pub cast-time : to_signed 63 (of_bits binary64 bits) ≡ trunc_z (of_bits binary64 bits)
+  cast-time = let h : InRange b.time = b.inside in ap (to_signed 63) back ∙ to_signed-whole 63 whole (mag-small b.time h) ∙ sym whole-time
 
   pub iso-outcome : (out : List ℕ) → length (iso_of_bits bits) ≤ length out
       → iso_outcome bits out ≡ record { reply = text_reply bits (length (iso_of_bits bits)); output = iso_of_bits bits ++ drop (length (iso_of_bits bits)) out }

@@ -4,8 +4,7 @@
 
 ghost use Rattle.std.specs.Prelude.{◌≡◌, ◌≤◌, length};
 ghost use Rattle.std.specs.Float.{binary64};
-ghost use Rattle.std.specs.Float.Ieee.{of_bits};
-ghost use Rattle.float.specs.Whole.{trunc_z};
+ghost use Rattle.std.specs.Float.Ieee.{of_bits, to_signed};
 ghost use Rattle.text.specs.Inner.{HasRoom, Appended};
 ghost use Rattle.datelines.specs.Lines.{iso_of_bits, accepted_line, refused_line, newline, line_of, last_of, IsTimeBits, Appends};
 
@@ -41,11 +40,9 @@ fn end_line(output: &mut Output)
     output.put(b'\n');
 }
 
-// The time that the bits stand for.
-#[tactic(auto, using(crate::proofs::Times::cast_time))]
+// The whole number that a time value's bits stand for.
 fn time_of(bits: u64) -> i64
-    requires { IsTimeBits bits }
-    ensures { result ≡ trunc_z (of_bits binary64 bits) }
+    ensures { result ≡ to_signed 63 (of_bits binary64 bits) }
 {
     float::as_i64(float::of_bits(bits))
 }
