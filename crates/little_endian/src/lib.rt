@@ -4,7 +4,7 @@
 ghost use Rattle.std.specs.Prelude.{◌≡◌, ◌+◌, ◌≤◌, length};
 ghost use Rattle.little_endian.specs.Bytes.{little_endian, twos_complement};
 
-// Four bytes, and eight, low byte first. Each compiles to one load.
+// Four bytes, and eight, low byte first. Each compiles to one load, since the length of the slice is known.
 #[tactic(auto, unfolding(crate::specs::Bytes::little_endian))]
 pub fn u32_at(bytes: &[u8], at: usize) -> u32
     requires { at + 4 ≤ length bytes.now }
