@@ -4,7 +4,7 @@
 
 ghost use Rattle.std.specs.Prelude.{◌≤◌, length};
 
-use datelines::OpenLine;
+use datelines::{LONGEST_ANSWER, OpenLine};
 use std::fmt;
 use std::fmt::{Display, Formatter};
 use std::io::{Read, Write};
@@ -13,8 +13,8 @@ use text::Output;
 // How much is read at once.
 const READ: usize = 4096;
 
-// Room for what that answers: no byte is answered by more than 64.
-const ROOM: usize = 64 * READ;
+// Room for what that answers: each byte may end a line.
+const ROOM: usize = LONGEST_ANSWER * READ;
 
 // What stops the program before the input has ended.
 #[derive(Clone, Copy)]

@@ -14,6 +14,9 @@ use itoa::{Buffer, Integer};
 pub use open_line::OpenLine;
 use text::Output;
 
+// No answer to a line has more bytes, with its newline.
+pub const LONGEST_ANSWER: usize = 64;
+
 // ---- a line's answer
 
 // A number in decimal.
@@ -49,7 +52,7 @@ fn time_of(bits: u64) -> i64
 
 #[tactic(auto, using(crate::proofs::Streams::iso_length))]
 fn put_accepted(bits: u64, output: &mut Output)
-    requires { IsTimeBits bits × HasRoom output.old 64 }
+    requires { IsTimeBits bits × HasRoom output.old LONGEST_ANSWER }
     ensures { Appends output.old (accepted_line bits) output.new }
 {
     output.put_all(b"0 ");
@@ -60,7 +63,7 @@ fn put_accepted(bits: u64, output: &mut Output)
 }
 
 fn put_refused(number: u32, output: &mut Output)
-    requires { HasRoom output.old 64 }
+    requires { HasRoom output.old LONGEST_ANSWER }
     ensures { Appends output.old (refused_line number) output.new }
 {
     put_number(number, output);
@@ -69,7 +72,7 @@ fn put_refused(number: u32, output: &mut Output)
 
 // Writes the answer to a text.
 pub fn put_line(text: &[u8], output: &mut Output)
-    requires { HasRoom output.old 64 }
+    requires { HasRoom output.old LONGEST_ANSWER }
     ensures { Appends output.old (line_of text.now) output.new }
 {
     let zone = [0u8; 12];
@@ -82,7 +85,7 @@ pub fn put_line(text: &[u8], output: &mut Output)
 // The input has ended: the answer to the line that is open then, if there is one.
 #[tactic(auto, using(crate::proofs::Streams::last_none, crate::proofs::Streams::last_some))]
 pub fn finish(line: &[u8], output: &mut Output)
-    requires { HasRoom output.old 64 }
+    requires { HasRoom output.old LONGEST_ANSWER }
     ensures { Appends output.old (last_of line.now) output.new }
 {
     if line.is_empty() {

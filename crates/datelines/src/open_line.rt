@@ -1,7 +1,7 @@
 ghost use Rattle.std.specs.Prelude.{◌≤◌};
 ghost use Rattle.datelines.specs.declared.open_line.TheConstants.{MOST_KEPT};
 
-use crate::{finish, put_line};
+use crate::{LONGEST_ANSWER, finish, put_line};
 use text::Output;
 
 // What ends a line.
@@ -37,8 +37,8 @@ impl OpenLine {
 
     // Takes in a byte.
     fn take_in(&mut self, b: u8, output: &mut Output)
-        requires { HasRoom output.old 64 }
-        ensures { Feeds (prints (begun self.old) b) (behind (begun self.old) b) (sets self.old.bytes 0 (behind (begun self.old) b)) 64 output.old self.new output.new }
+        requires { HasRoom output.old LONGEST_ANSWER }
+        ensures { Feeds (prints (begun self.old) b) (behind (begun self.old) b) (sets self.old.bytes 0 (behind (begun self.old) b)) LONGEST_ANSWER output.old self.new output.new }
     {
         if b == NEWLINE {
             put_line(&self.bytes[..self.kept], output);
@@ -51,8 +51,8 @@ impl OpenLine {
 
     // Takes in a chunk of the input: the answers of the lines that end in it go into the output.
     pub fn feed(&mut self, chunk: &[u8], output: &mut Output)
-        requires { HasRoom output.old (64 * length chunk.now) }
-        ensures { Feeds (emitted (begun self.old) chunk.now) (left (begun self.old) chunk.now) (lent self.old.bytes (begun self.old) chunk.now) (64 * length chunk.now) output.old self.new output.new }
+        requires { HasRoom output.old (LONGEST_ANSWER * length chunk.now) }
+        ensures { Feeds (emitted (begun self.old) chunk.now) (left (begun self.old) chunk.now) (lent self.old.bytes (begun self.old) chunk.now) (LONGEST_ANSWER * length chunk.now) output.old self.new output.new }
     {
         for &b in chunk {
             self.take_in(b, output);
@@ -61,7 +61,7 @@ impl OpenLine {
 
     // The input has ended.
     pub fn finish(&self, output: &mut Output)
-        requires { HasRoom output.old 64 }
+        requires { HasRoom output.old LONGEST_ANSWER }
         ensures { Appends output.old (last_of (begun self.now)) output.new }
     {
         finish(&self.bytes[..self.kept], output);

@@ -10,11 +10,12 @@ mod fields;
 mod output;
 
 pub use fields::DateFields;
-pub use output::{Output, last_digits};
+pub use output::Output;
+use output::last_digits;
 
 // ---- digits
 
-pub fn pad<const N: usize>(t: u32, output: &mut Output)
+fn pad<const N: usize>(t: u32, output: &mut Output)
     requires { HasRoom output.old N }
     ensures { Appended output.old (digits N t) N output.new }
 {

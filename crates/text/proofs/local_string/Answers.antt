@@ -4,7 +4,6 @@ use mathlib.Core.Path.{refl, ap, ◌∙◌}
 use Prim.Native.Nat.{◌+◌}
 use native.Mathlib.Omega.{arith}
 use borrow.Author.Rules.{rules}
-use lib.ListN.{length}
 use Rattle.ecma262.proofs.Texts.{length-local}
 use Rattle.text.specs.Inner.{whole_of}
 use Rattle.text.proofs.Runs.{appended_as, appended_then, prints_none, prints_whole}
