@@ -4,10 +4,9 @@
 #![tactic(auto)]
 
 ghost use Rattle.std.specs.Prelude.{◌≡◌, ◌<◌, ℕ, is_some, IfOk, Result};
-ghost use Rattle.zone.specs.Zone.{records};
 ghost use Rattle.answer.specs.declared.Refusal.{Refusal};
 ghost use Rattle.new_date.specs.Calls.{set, bits_of, shift_in};
-ghost use Rattle.new_date.specs.Inner.{list_bytes};
+ghost use Rattle.new_date.specs.Inner.{list_bytes, records_in};
 ghost use Rattle.fields.specs.Outcome.{start_of, zone_row, record_rows, build_outcome, set_outcome};
 ghost use Rattle.fields.specs.Inner.{zone_bytes, past};
 
@@ -76,7 +75,7 @@ fn bits_of(first: Part) -> u32
 
 // t, set to LocalTime(t) where the call is local.
 fn shift_in(zone: Option<ZoneList>, t: f64) -> f64
-    ensures { result ≡ shift_in (is_some zone.entry) (records (list_bytes zone.entry)) t }
+    ensures { result ≡ shift_in (is_some zone.entry) (records_in zone.entry) t }
 {
     zone.map_or(t, |list| local::local_time(t, list))
 }
@@ -84,7 +83,7 @@ fn shift_in(zone: Option<ZoneList>, t: f64) -> f64
 // Where a setter starts. Of a NaN date the setters' own operations give NaN, but for the year's.
 #[tactic(auto, using(new_date::proofs::Literals::not_a_number), unfolding(crate::specs::Outcome::start_of))]
 fn start_of(zone: Option<ZoneList>, date: TimeValue) -> f64
-    ensures { result ≡ start_of (is_some zone.entry) (records (list_bytes zone.entry)) date }
+    ensures { result ≡ start_of (is_some zone.entry) (records_in zone.entry) date }
 {
     match date {
         TimeValue::Time(t) => shift_in(zone, t),

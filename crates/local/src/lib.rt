@@ -4,7 +4,7 @@
 #![tactic(auto)]
 
 ghost use Rattle.std.specs.Prelude.{◌≡◌, ◌≤◌, nat_abs};
-ghost use Rattle.zone.specs.Zone.{records};
+ghost use Rattle.zone.specs.Inner.{records_of};
 ghost use Rattle.local.specs.Local.{asked_second, asked_second_f, offset_seconds_f, shift_f, local_time_f, utc_f};
 
 use calendar::MS_PER_SECOND;
@@ -35,14 +35,14 @@ fn asked_second(t: f64) -> i64
 // The offset at t, read as an instant.
 #[tactic(auto, unfolding(crate::specs::Local::offset_seconds_f))]
 pub fn local_timezone_offset_seconds(t: f64, zone: ZoneList) -> i32
-    ensures { result ≡ offset_seconds_f (records zone.entry.bytes.now) t }
+    ensures { result ≡ offset_seconds_f (records_of zone.entry) t }
 {
     zone.lookup(asked_second(t))
 }
 
 // That offset in milliseconds.
 fn shift(t: f64, zone: ZoneList) -> f64
-    ensures { result ≡ shift_f (records zone.entry.bytes.now) t }
+    ensures { result ≡ shift_f (records_of zone.entry) t }
 {
     f64::from(local_timezone_offset_seconds(t, zone)) * MS_PER_SECOND
 }
@@ -50,14 +50,14 @@ fn shift(t: f64, zone: ZoneList) -> f64
 // LocalTime(t)
 #[tactic(auto, unfolding(crate::specs::Local::local_time_f))]
 pub fn local_time(t: f64, zone: ZoneList) -> f64
-    ensures { result ≡ local_time_f (records zone.entry.bytes.now) t }
+    ensures { result ≡ local_time_f (records_of zone.entry) t }
 {
     t + shift(t, zone)
 }
 
 // UTC(t)
 pub fn utc_t(t: f64, zone: ZoneList) -> f64
-    ensures { result ≡ utc_f (records zone.entry.bytes.now) t }
+    ensures { result ≡ utc_f (records_of zone.entry) t }
 {
     // 1. If t is not finite, return NaN.
     if !t.is_finite() {

@@ -1,5 +1,6 @@
 -- What the crate's functions take and give, for their contracts; no outcome cites it. Definitions only. Assumes nothing.
 use Rattle.std.specs.Prelude.{◌≡◌, List, [], ℕ, Float, Option, Some, None, unwrap_or}
+use Rattle.zone.specs.Zone.{Record, records}
 use Rattle.zone.specs.declared.ZoneList.{ZoneList}
 use Rattle.field_record.specs.Inner.{argument_of, after}
 use Rattle.field_record.specs.declared.Arguments.{Arguments}
@@ -13,3 +14,7 @@ pub record Reads (old new : Arguments) (absent x : Float) : Type 0 where
 abbrev pub list_bytes : Option ZoneList → List ℕ
 list_bytes (Some list) = list.bytes.now
 list_bytes None = []
+
+-- and its records
+abbrev pub records_in : Option ZoneList → List Record
+records_in list = records (list_bytes list)

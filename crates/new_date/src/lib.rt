@@ -6,9 +6,8 @@
 ghost use Rattle.std.specs.Prelude.{◌≡◌, is_some};
 ghost use Rattle.std.specs.Float.{nan, binary64};
 ghost use Rattle.std.specs.Float.Ieee.{to_bits};
-ghost use Rattle.zone.specs.Zone.{records};
 ghost use Rattle.new_date.specs.Calls.{build, set, present, or_zero, shift_out, new_date_of, value_out};
-ghost use Rattle.new_date.specs.Inner.{Reads, list_bytes};
+ghost use Rattle.new_date.specs.Inner.{Reads, records_in};
 
 use field_record::{Arguments, FieldRecord};
 use zone::ZoneList;
@@ -203,14 +202,14 @@ pub fn built(fields: FieldRecord) -> f64
 
 // UTC(date) where the call is local, and the date where it is not.
 fn shift_out(zone: Option<ZoneList>, date: f64) -> f64
-    ensures { result ≡ shift_out (is_some zone.entry) (records (list_bytes zone.entry)) date }
+    ensures { result ≡ shift_out (is_some zone.entry) (records_in zone.entry) date }
 {
     zone.map_or(date, |list| local::utc_t(date, list))
 }
 
 // The bits of TimeClip(UTC(date)) where the call is local, and of TimeClip(date) where it is not.
 pub fn value_of(zone: Option<ZoneList>, date: f64) -> u64
-    ensures { result ≡ to_bits binary64 (value_out (is_some zone.entry) (records (list_bytes zone.entry)) date) }
+    ensures { result ≡ to_bits binary64 (value_out (is_some zone.entry) (records_in zone.entry) date) }
 {
     float::bits_of(make::time_clip(shift_out(zone, date)))
 }

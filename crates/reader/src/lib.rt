@@ -7,7 +7,7 @@
 ghost use Rattle.std.specs.Prelude.{◌≡◌, ◌+◌, ◌-◌, ◌*◌, ◌≤◌, ◌<◌, pos, nat_abs};
 ghost use Rattle.ecma262.specs.Date.{make_day, make_date, time_of};
 ghost use Rattle.ecma262.specs.Format.{year_number, date_fields, time_fields, form_fields, form_zone, YearBounds, DateBounds, TimeBounds, ZoneBounds, Bounds};
-ghost use Rattle.zone.specs.Zone.{records};
+ghost use Rattle.zone.specs.Inner.{records_of};
 ghost use Rattle.local.specs.Local.{utc_time};
 ghost use Rattle.parser.specs.Inner.{as_year, as_date, as_time, as_zone, as_form};
 ghost use Rattle.reader.specs.Denotes.{less_written, less_offset, instant_of};
@@ -140,7 +140,7 @@ impl FieldsTime {
     // Less the offset that the list gives at it, read as an instant: `utc_t`.
     #[tactic(auto, unfolding(local::specs::Local::utc_time, local::specs::Local::offset_of_local, local::specs::Local::offset_of_instant))]
     fn less_local(self, zone: ZoneList) -> i64
-        ensures { result ≡ utc_time (records zone.entry.bytes.now) self.ms }
+        ensures { result ≡ utc_time (records_of zone.entry) self.ms }
     {
         self.ms - i64::from(zone.lookup(local::second_of(self.ms))) * 1_000
     }
@@ -148,7 +148,7 @@ impl FieldsTime {
     // Less the offset of a zone as it is written.
     fn less_zone(self, zone: ZoneList, z: Zone) -> i64
         requires { ZoneBounds (as_zone z) }
-        ensures { result ≡ less_offset (records zone.entry.bytes.now) (as_zone z) self.ms }
+        ensures { result ≡ less_offset (records_of zone.entry) (as_zone z) self.ms }
     {
         match z {
             Zone::Absent => self.less_local(zone),
@@ -167,7 +167,7 @@ impl FieldsTime {
 #[tactic(auto, unfolding(crate::specs::Denotes::instant_of))]
 fn instant_of(zone: ZoneList, form: Form) -> i64
     requires { Bounds (as_form form) }
-    ensures { result ≡ instant_of (records zone.entry.bytes.now) (as_form form) }
+    ensures { result ≡ instant_of (records_of zone.entry) (as_form form) }
 {
     Fields::of(form).time().less_zone(zone, zone_of(form))
 }

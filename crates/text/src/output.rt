@@ -40,7 +40,7 @@ impl<'a> Output<'a> {
 
 // The last N decimal digits, the highest first.
 #[tactic(auto, using(crate::proofs::Places::no_place, crate::proofs::Places::all_places))]
-pub fn last_digits<const N: usize>(t: u32) -> [u8; N]
+pub(crate) fn last_digits<const N: usize>(t: u32) -> [u8; N]
     ensures { result ≡ digits N t }
 {
     let mut bytes = [b'0'; N];

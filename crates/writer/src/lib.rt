@@ -10,7 +10,7 @@ ghost use Rattle.answer.specs.Answer.{nan_value};
 ghost use Rattle.writer.specs.Inner.{IsShown, FieldsAt, replied};
 ghost use Rattle.writer.specs.Outcome.{written, Leaves};
 ghost use Rattle.timevalue.specs.TimeValue.{IsTime};
-ghost use Rattle.zone.specs.Zone.{records};
+ghost use Rattle.zone.specs.Inner.{records_of};
 ghost use Rattle.writer.specs.Writer.{iso_outcome, utc_outcome, to_date_string, local_outcome};
 
 use answer::{NAN_VALUE, Refusal, Text};
@@ -67,7 +67,7 @@ pub fn write_utc(t: f64, output: &mut [u8]) -> Result<Text, Refusal>
 // ToDateString(tv) of a time of the range, under an accepted list.
 pub fn to_date_string_t(tv: f64, zone: ZoneList, output: &mut [u8]) -> Result<Text, Refusal>
     requires { IsTime tv }
-    ensures { Leaves (written (to_bits binary64 tv) (to_date_string (records zone.entry.bytes.now) (trunc_z tv)) output.old) result output.new }
+    ensures { Leaves (written (to_bits binary64 tv) (to_date_string (records_of zone.entry) (trunc_z tv)) output.old) result output.new }
 {
     // 1. If tv is NaN, return "Invalid Date": `to_string` has tested that.
     // 2. Let t be LocalTime(tv).
