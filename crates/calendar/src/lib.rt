@@ -1,6 +1,6 @@
 // The calendar of builtins/date/utils.rs on f64, function by function under its names. Each contract is the original's operations in
 // its order (specs/Calendar.antt), for every f64; that they are ECMA-262's calendar on whole milliseconds is in proofs/Whole.antt. Of a whole time
-// of the range and its local shifts a function counts in integers; any other goes by those operations.
+// of the range and its local shifts year, day of the year, weekday and clock are counted in integers; all else goes by those operations.
 #![tactic(auto)]
 
 ghost use Rattle.std.specs.Prelude.{◌≡◌, ◌<◌, ◌≤◌, cond, pos, nat_abs, ◌+ℤ◌, IfSome};

@@ -1,4 +1,4 @@
-// What stands below the C interface, in shapes that C can call, so that it is compared with the original on its own: an f64 crosses as its bits,
+// What stands below the C interface, in shapes that C can call, so that it is compared with the original on its own: an f64 is given as its bits,
 // a whole number in two's complement, a truth as 0 or 1, digits as bytes with the first lowest. The crate `exports_c` exports each under its
 // name; its archive is for the differential run alone.
 #![tactic(auto)]

@@ -1,4 +1,4 @@
-// The field record, in which a call's arguments cross: lent bytes, a map and then 8 for each bit that stands in it.
+// The field record, which a call's arguments are given in: lent bytes, a map and then 8 for each bit that stands in it.
 #![tactic(auto)]
 
 ghost use Rattle.std.specs.Prelude.{◌≡◌, true, ◌*◌, ◌<◌, length, is_some, IfSome};

@@ -1,5 +1,5 @@
-// The f64 methods that the date functions use, worked out from sign, exponent and fraction bits. Each contract holds for every f64: NaN, infinities,
-// -0 and subnormals too. The definitions are in specs/, and the laws of whole numbers in f64 in proofs/.
+// The f64 methods that the date functions use: sign, whole part, floor and remainder worked out from sign, exponent and fraction bits, the others
+// by the language's own. Each contract holds for every f64: NaN, infinities, -0 and subnormals too. The definitions are in specs/, and the laws of whole numbers in f64 in proofs/.
 #![tactic(auto)]
 
 ghost use Rattle.std.specs.Prelude.{◌≡◌, ℕ, IsTrue, ◌+◌, ◌-◌, ◌*◌, ◌/◌, ◌%◌, ◌^◌, ◌<◌, ◌≤◌, false, from_bits, is_nan, to_bits};
@@ -38,7 +38,7 @@ fn clear_low(b: u64, k: u64) -> u64
 fn join_sign(s: u64, b: u64) -> u64
     ensures { result ≡ s / 2 ^ 63 * 2 ^ 63 + b % 2 ^ 63 }
 {
-    ((s >> 63) << 63) | (b & 0x7fff_ffff_ffff_ffff)
+    ((s >> 63) << 63) | without_sign(b)
 }
 
 // ---- values and patterns
@@ -290,7 +290,7 @@ pub fn is_whole_within(x: f64, most: f64) -> bool
     abs(x) <= most && trunc_bits(b) == b
 }
 
-// A whole number as an integer. A sum with 0.0 is never -0, which the cast does not take.
+// A whole number as an integer. Rounded to the nearest, a sum with 0.0 is never -0, which the cast does not take.
 #[tactic(auto, using(crate::proofs::Casts::exact_taken, crate::proofs::Casts::exact_back))]
 pub fn exact_i64(x: f64) -> i64
     requires { WholeWithin (2 ^ 53) x }

@@ -1,5 +1,5 @@
-//! Runs every public function of `float` on the pairs of patterns that stand in stdin, one pair to a line, and writes what each gives, one line to a
-//! pair. README.md says where stdin and stdout come from: Rust's own answers.
+//! Runs the public functions of `float` on the pairs of patterns that stand in stdin, one pair to a line, and writes what each gives, one line to a
+//! pair; `is_whole_within` and `exact_i64` run inside the casts. README.md says where stdin and stdout come from: Rust's own answers.
 #![tactic(auto)]
 
 use std::io::{BufRead, BufReader, BufWriter, Write};

@@ -1,7 +1,7 @@
 // The new date of the builder and of each setter, in the original's steps (builtins/date/mod.rs), and the bits of its value. A setter takes the
 // time t, which is local where the call is, and the record of its arguments. Each contract is one line of specs/Calls.antt, for every f64 and every
 // record; that it is the standard's own step in the exact domain is in proofs/Exact.antt.
-#![tactic(auto)]
+#![tactic(auto, using(field_record::proofs::Laws::given_or), unfolding(crate::specs::Calls::new_date_of, crate::specs::Calls::new_date, crate::specs::Calls::absent))]
 
 ghost use Rattle.std.specs.Prelude.{◌≡◌, is_some};
 ghost use Rattle.std.specs.Float.{nan, binary64};
@@ -59,7 +59,6 @@ fn next_of(arguments: &mut Arguments, part: Part, t: f64) -> f64
 
 // ---- the clock's setters
 
-#[tactic(auto, using(field_record::proofs::Laws::given_or), unfolding(crate::specs::Calls::new_date_of, crate::specs::Calls::new_date, crate::specs::Calls::absent))]
 fn milliseconds(t: f64, fields: FieldRecord) -> f64
     ensures { result ≡ new_date_of (set Part.Milliseconds) t fields.entry.bytes.now }
 {
@@ -75,7 +74,6 @@ fn milliseconds(t: f64, fields: FieldRecord) -> f64
     make::make_date(calendar::day(t), time)
 }
 
-#[tactic(auto, using(field_record::proofs::Laws::given_or), unfolding(crate::specs::Calls::new_date_of, crate::specs::Calls::new_date, crate::specs::Calls::absent))]
 fn seconds(t: f64, fields: FieldRecord) -> f64
     ensures { result ≡ new_date_of (set Part.Seconds) t fields.entry.bytes.now }
 {
@@ -87,7 +85,6 @@ fn seconds(t: f64, fields: FieldRecord) -> f64
     make::make_date(calendar::day(t), time)
 }
 
-#[tactic(auto, using(field_record::proofs::Laws::given_or), unfolding(crate::specs::Calls::new_date_of, crate::specs::Calls::new_date, crate::specs::Calls::absent))]
 fn minutes(t: f64, fields: FieldRecord) -> f64
     ensures { result ≡ new_date_of (set Part.Minutes) t fields.entry.bytes.now }
 {
@@ -100,7 +97,6 @@ fn minutes(t: f64, fields: FieldRecord) -> f64
     make::make_date(calendar::day(t), time)
 }
 
-#[tactic(auto, using(field_record::proofs::Laws::given_or), unfolding(crate::specs::Calls::new_date_of, crate::specs::Calls::new_date, crate::specs::Calls::absent))]
 fn hours(t: f64, fields: FieldRecord) -> f64
     ensures { result ≡ new_date_of (set Part.Hours) t fields.entry.bytes.now }
 {
@@ -116,7 +112,6 @@ fn hours(t: f64, fields: FieldRecord) -> f64
 
 // ---- the day's setters
 
-#[tactic(auto, using(field_record::proofs::Laws::given_or), unfolding(crate::specs::Calls::new_date_of, crate::specs::Calls::new_date, crate::specs::Calls::absent))]
 fn date(t: f64, fields: FieldRecord) -> f64
     ensures { result ≡ new_date_of (set Part.Date) t fields.entry.bytes.now }
 {
@@ -127,7 +122,6 @@ fn date(t: f64, fields: FieldRecord) -> f64
     make::make_date(day, calendar::time_within_day(t))
 }
 
-#[tactic(auto, using(field_record::proofs::Laws::given_or), unfolding(crate::specs::Calls::new_date_of, crate::specs::Calls::new_date, crate::specs::Calls::absent))]
 fn month(t: f64, fields: FieldRecord) -> f64
     ensures { result ≡ new_date_of (set Part.Month) t fields.entry.bytes.now }
 {
@@ -147,7 +141,6 @@ fn or_zero(t: f64) -> f64
     if t.is_nan() { 0.0 } else { t }
 }
 
-#[tactic(auto, using(field_record::proofs::Laws::given_or), unfolding(crate::specs::Calls::new_date_of, crate::specs::Calls::new_date, crate::specs::Calls::absent))]
 fn full_year(date: f64, fields: FieldRecord) -> f64
     ensures { result ≡ new_date_of (set Part.FullYear) date fields.entry.bytes.now }
 {
@@ -198,7 +191,7 @@ pub fn built(fields: FieldRecord) -> f64
     make::make_date(make::make_day(yr, m, dt), make::make_time(h, min, s, milli))
 }
 
-// ---- the way out. A local call has a zone list, and a UTC call none.
+// ---- the bits of the new date's value. A local call has a zone list, and a UTC call none.
 
 // UTC(date) where the call is local, and the date where it is not.
 fn shift_out(zone: Option<ZoneList>, date: f64) -> f64

@@ -30,7 +30,7 @@ impl<'a> Reader<'a> {
     }
 }
 
-// ---- the work, on a plain text and an index
+// ---- the reading, of a plain text from an index on
 
 // The form of a text from an index on, or the first fault. Past the end nothing is left, as at the end.
 pub fn parse_at(text: &[u8], at: usize) -> Result<Form, Fault>
@@ -39,7 +39,7 @@ pub fn parse_at(text: &[u8], at: usize) -> Result<Form, Fault>
     parser::parse(text.get(at..).unwrap_or(&[]))
 }
 
-// From a plain text to a reader and back.
+// The form of a whole text.
 pub fn parse_text(text: &[u8]) -> Result<Form, Fault>
     ensures { as_reading result ≡ read text.now }
 {

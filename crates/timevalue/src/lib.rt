@@ -1,5 +1,4 @@
-// Time values as they cross into the work: 64 bits that are a NaN's or a whole number of the range, or no time value. Writers and setters take
-// them so.
+// The time values that writers and setters are called with: 64 bits that are a NaN's or a whole number of the range, or no time value.
 #![tactic(auto)]
 
 ghost use Rattle.std.specs.Prelude.{◌≡◌};

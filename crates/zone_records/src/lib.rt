@@ -8,25 +8,26 @@ ghost use Rattle.std.specs.Int.Signed.{lt_z};
 ghost use Rattle.zone.specs.Zone.{IsZoneList, is_zone_list, offset_at};
 ghost use Rattle.zone_records.specs.Slice.{as_records};
 
+use zone::{LARGEST_OFFSET, MOST_RECORDS};
+
 #[derive(Clone, Copy)]
 pub struct ZoneRecord {
     pub second: i64,
     pub offset: i32,
 }
 
-// Whether a slice of records is a zone list, by the test that bytes are judged by.
+// Whether a slice of records is a zone list, by the rule that bytes are judged by.
 pub fn accept(zone: &[ZoneRecord]) -> bool
     ensures { result ≡ is_zone_list (as_records zone.now) }
 {
-    (1..=1024).contains(&zone.len()) && are_bounded(zone) && are_rising(zone)
+    (1..=MOST_RECORDS).contains(&zone.len()) && are_bounded(zone) && are_rising(zone)
 }
 
 // Whether each offset is less than a day, forwards or back.
 fn are_bounded(zone: &[ZoneRecord]) -> bool
     ensures { result ≡ list_all (λ z. leb (nat_abs z.offset) 86399) zone.now }
 {
-    zone.iter()
-        .all(|record| (-86399..=86399).contains(&record.offset))
+    zone.iter().all(|record| (-LARGEST_OFFSET..=LARGEST_OFFSET).contains(&record.offset))
 }
 
 // Whether each second is before the next.

@@ -17,7 +17,7 @@ fn records(alloc: Global, bytes: &[u8]) -> Result<Vec<ZoneRecord>, AllocError> {
     records.collect(alloc)
 }
 
-// The seconds asked: from four steps before the first record of the longest list to four past its last.
+// The seconds asked: in steps of 2^30, from before the first record of the longest list of stdin to past its last.
 fn judge(rt: &HostRuntime, list: &[ZoneRecord]) -> io::Result<()> {
     if !zone_records::accept(list) {
         return println!(rt; "refused");
