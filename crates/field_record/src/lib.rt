@@ -1,9 +1,9 @@
 // The field record, which a call's arguments are given in: lent bytes, a map and then 8 for each bit that stands in it.
 #![tactic(auto)]
 
-ghost use Rattle.std.specs.Prelude.{◌≡◌, true, ◌*◌, ◌<◌, length, is_some, IfSome};
+ghost use Rattle.std.specs.Prelude.{◌≡◌, true, ◌*◌, ◌/◌, ◌%◌, ◌<◌, length, drop, is_some, IfSome};
 ghost use Rattle.std.specs.Int.Count.{ones};
-ghost use Rattle.field_record.specs.FieldRecord.{has_length, has_other_bit};
+ghost use Rattle.field_record.specs.FieldRecord.{map_of, has_length, has_other_bit};
 ghost use Rattle.field_record.specs.Inner.{given, argument_of, after};
 
 // Whether the map's ones fix this length.
@@ -48,7 +48,8 @@ impl<'a> FieldRecord<'a> {
     // The arguments from bit 0 on.
     #[tactic(auto, using(crate::proofs::Laws::not_empty, crate::proofs::Laws::from_record, crate::proofs::Laws::filled))]
     pub fn arguments(self) -> Arguments<'a>
-        ensures { argument_of result.map result.fields.now ≡ given self.entry.bytes.now }
+        ensures value { argument_of result.map result.fields.now ≡ given self.entry.bytes.now }
+        ensures left { (result.map ≡ map_of self.entry.bytes.now) × (result.fields.now ≡ drop 1 self.entry.bytes.now) }
     {
         Arguments {
             map: self.bytes[0],
@@ -71,6 +72,7 @@ impl<'a> Arguments<'a> {
     pub fn next(&mut self) -> Option<f64>
         ensures value { result ≡ argument_of self.old.map self.old.fields.now 0 }
         ensures on { argument_of self.new.map self.new.fields.now ≡ after (argument_of self.old.map self.old.fields.now) }
+        ensures left { (self.new.map ≡ self.old.map / 2) × (self.new.fields.now ≡ drop (8 * (self.old.map % 2)) self.old.fields.now) }
     {
         let stands = self.map % 2 == 1;
         self.map >>= 1;
