@@ -1,2 +1,1 @@
 pub mod Nan
-pub mod Turned

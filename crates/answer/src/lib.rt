@@ -1,4 +1,4 @@
-// What a call answers. Inside, that is a `Result`: what the call made, or why it is turned back. A C function answers its number, time value and
+// What a call answers. Inside, that is a `Result`: what the call made, or why it is refused. A C function answers its number, time value and
 // length.
 #![tactic(auto)]
 
@@ -8,7 +8,7 @@ ghost use Rattle.answer.specs.Answer.{refusal_number, refused_answer, answer_of,
 // Every NaN handed out has these bits.
 pub const NAN_VALUE: u64 = 0x7FF8_0000_0000_0000;
 
-// Why a call is turned back: the faults of document 01's table, in its order.
+// Why a call is refused: the faults of document 01's table, in its order.
 #[derive(Clone, Copy, Debug, PartialEq, Eq)]
 pub enum Refusal {
     // Zone list: length, order or offset outside its rule.
@@ -89,6 +89,7 @@ impl From<Result<Text, Refusal>> for Answer {
     ghost from_gives = { λ written answer. answer ≡ answer_of written };
 
     fn from(written: Result<Text, Refusal>) -> Answer {
+        // of the refusal, or of the text
         written.map_or_else(Answer::from, Answer::from)
     }
 }

@@ -1,5 +1,5 @@
 // Document 01's program: under the list (0, 0), one text a line in, out the number and, for 0, the time value and ISO text. It reads and
-// writes; what it writes is the work of `datelines`.
+// writes; `datelines` says what is written.
 #![tactic(auto)]
 
 ghost use Rattle.std.specs.Prelude.{◌≤◌, length};

@@ -95,11 +95,6 @@ prints-length line b = go (eqb b 10)
     go true = line-length line
     go false = omega arith
 
-pub emitted-length : (line s : List ℕ) → length (emitted line s) ≤ 64 * length s
-unfolding emitted
-emitted-length line [] = omega arith
-emitted-length line (b ∷ s) = simp length-append (omega (arith, prints-length line b, emitted-length (behind line b) s))
-
 -- ---- chunks
 
 -- of a line, its first 33 bytes are kept

@@ -16,6 +16,3 @@ handed h = h.bits ∙ ap (to_bits binary64) h.is
 
 pub whole : {z : ℤ} {r : ℕ} → Whole z r → r ≡ word z
 whole h = h.bits ∙ ap word h.is
-
-pub packed : {w : List ℕ} {n r : ℕ} → Packed w n r → r ≡ little_endian 8 (sets eight_zeros 0 w) 0
-packed p = p.word-is ∙ ap (λ (l : List ℕ). little_endian 8 l 0) p.put.stored

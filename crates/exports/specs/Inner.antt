@@ -30,10 +30,10 @@ pub record Whole (z : ℤ) (r : ℕ) : Type 0 where
   pub is : value ≡ z
   pub bits : r ≡ word value
 
--- r is the n bytes w, the first lowest: r ≡ little_endian 8 (sets eight_zeros 0 w) 0, by `packed`
 abbrev pub eight_zeros : List ℕ
 eight_zeros = 0 ∷ 0 ∷ 0 ∷ 0 ∷ 0 ∷ 0 ∷ 0 ∷ 0 ∷ []
 
+-- r is the n bytes w, the first lowest: r ≡ little_endian 8 (sets eight_zeros 0 w) 0
 pub record Packed (w : List ℕ) (n r : ℕ) : Type 0 where
   pub bytes : List ℕ
   pub put : Puts eight_zeros 0 w n bytes

@@ -189,6 +189,11 @@ trunc-own {x} h w =
     trunc-value x s n 1 (zero-lt-suc 0) w.value ∙ ap (whole_number s) (div-one n)
     ∙ whole_unique binary64 (whole_number s n) x s n (round-fits binary64 s n 1) h (exact-own x s n h w.value) w.value
 
+pub floor-own : {x : Float} {z : ℤ} → T (fits binary64 x) → IsWhole x z → floor_f x ≡ x
+floor-own {x} h w =
+    floor-value x w.sign w.size 1 (zero-lt-suc 0) w.value ∙ ap (whole_number w.sign) (down-whole w.sign w.size ∙ sym (div-one w.size))
+    ∙ sym (trunc-value x w.sign w.size 1 (zero-lt-suc 0) w.value) ∙ trunc-own h w
+
 sign-value : (r : Bool) (x : Float) (s : Bool) (a c : ℕ) → HasValue x s a c → HasValue (with_sign r x) r a c
 unfolding with_sign
 sign-value r nan s a c v = absurd v

@@ -1,4 +1,4 @@
--- NaN: the test `x != x`, and the equality with it. Assumes nothing.
+-- NaN: the test `x != x`, and the equality with it; the test for a finite value. Assumes nothing.
 use Rattle.std.proofs.Common.{◌≡◌, true, false, not, T, refl, subst}
 use mathlib.Core.Bool.{false≢true}
 use lib.Dec.{not_T}

@@ -1,7 +1,7 @@
 // The new date of the builder and of each setter, in the original's steps (builtins/date/mod.rs), and the bits of its value. A setter takes the
 // time t, which is local where the call is, and the record of its arguments. Each contract is one line of specs/Calls.antt, for every f64 and every
 // record; that it is the standard's own step in the exact domain is in proofs/Exact.antt.
-#![tactic(auto, using(field_record::proofs::Laws::given_or), unfolding(crate::specs::Calls::new_date_of, crate::specs::Calls::new_date, crate::specs::Calls::absent))]
+#![tactic(auto, using(field_record::proofs::Laws::given_or, crate::proofs::Literals::zero, crate::proofs::Literals::one), unfolding(crate::specs::Calls::new_date_of, crate::specs::Calls::new_date, crate::specs::Calls::absent))]
 
 ghost use Rattle.std.specs.Prelude.{◌≡◌, is_some};
 ghost use Rattle.std.specs.Float.{nan, binary64};
@@ -173,7 +173,6 @@ pub fn set(first: Part, t: f64, fields: FieldRecord) -> f64
 // ---- the builder
 
 // Date.UTC, and the constructor of many fields
-#[tactic(auto, using(field_record::proofs::Laws::given_or, crate::proofs::Literals::zero, crate::proofs::Literals::one), unfolding(crate::specs::Calls::new_date_of, crate::specs::Calls::new_date, crate::specs::Calls::absent))]
 pub fn built(fields: FieldRecord) -> f64
     ensures { result ≡ new_date_of build nan fields.entry.bytes.now }
 {

@@ -11,7 +11,7 @@ ghost use Rattle.parser.specs.Inner.{Reads, Ends, Next, IsDigit, NoDigit, block_
 
 use std::ops::RangeInclusive;
 
-// Why a text is turned back.
+// Why a text is refused.
 #[derive(Clone, Copy, Debug, PartialEq, Eq)]
 pub enum Fault {
     // 5: the text ends where a byte is needed.

@@ -1,4 +1,5 @@
--- The reader's answer by cases: no accepted list, a fault of the text, an instant in the range or outside it. Assumes nothing.
+-- The reader's answer by cases: no accepted list, a fault of the text, an instant in the range or outside it; that a form that is read is within its
+-- bounds. Assumes nothing.
 use mathlib.Core.Path.{◌≡◌, sym, ap, ap₂}
 use mathlib.Core.Bool.{Bool, true, false, cond}
 use mathlib.Core.List.{List, []}

@@ -1,4 +1,4 @@
--- An offset's sign and the length of an ISO year, of the tests as the machine makes them. Assumes nothing.
+-- An offset's sign and the length of an ISO and of a padded year, of the tests as the machine makes them. Assumes nothing.
 use mathlib.Core.Path.{◌∙◌}
 use Rattle.std.proofs.Common.{◌≡◌, [], ◌∷◌, ℕ, ◌<◌, ◌≤◌, true, false, ℤ, pos, negsuc, w32, to_z, of_z, sym, ap, length}
 use lib.IntN.{nat_abs}
