@@ -1,5 +1,5 @@
 pub mod Whole
-pub mod Table
+pub mod Months
 pub mod Wrap
 mod Quick
 pub mod Counting

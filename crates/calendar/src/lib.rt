@@ -41,11 +41,8 @@ const MS_PER_AVERAGE_YEAR: f64 = 31_556_952_000.0;
 
 const MS_PER_HALF_YEAR: f64 = 15_778_476_000.0;
 
-// The days of a year before each month, of a common year and of a leap year.
-const DAYS_BEFORE: [[u32; 12]; 2] = [
-    [0, 31, 59, 90, 120, 151, 181, 212, 243, 273, 304, 334],
-    [0, 31, 60, 91, 121, 152, 182, 213, 244, 274, 305, 335],
-];
+// The month after February, counted from 0.
+const MARCH: u32 = 2;
 
 // ---- the day in whole numbers
 
@@ -263,12 +260,17 @@ pub fn in_leap_year(t: f64) -> u16
     u16::from(is_leap_year(year_from_time(t)))
 }
 
-// The days of a year before its month, month 0 being January.
+// The days of a year before its month, month 0 being January. Were February a month of 30 days, they would be 489/16 a month, to the nearest
+// day; from March on the days that February has not come off.
 pub fn days_before(leap: bool, month: u32) -> u32
     requires { month < 12 }
     ensures { result ≡ days_before (cond leap 1 0) month }
 {
-    DAYS_BEFORE[usize::from(leap)][month as usize]
+    let days = (489 * month + 8) / 16;
+    if month < MARCH {
+        return days;
+    }
+    days - 2 + u32::from(leap)
 }
 
 // The month of the day d of a year, both from 0: no month is longer than 32 days, so it is d / 32 or the month after that.

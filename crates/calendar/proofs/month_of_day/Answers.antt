@@ -4,7 +4,7 @@ use mathlib.Core.Path.{sym, ap, ◌∙◌, subst}
 use mathlib.Core.Bool.{cond}
 use Prim.Native.Nat.{◌+◌, ◌/◌, ◌≤◌, ◌<◌}
 use native.Mathlib.Omega.{arith}
-use Rattle.calendar.proofs.Table.{month-by-32, month-late}
+use Rattle.calendar.proofs.Months.{month-by-32, month-late}
 use Rattle.calendar.proofs.Wrap.{bit}
 use Rattle.calendar.proofs.month_of_day.Goals as goal
 

@@ -9,7 +9,7 @@ use Rattle.integers.proofs.Machine.{kept}
 use Rattle.ecma262.specs.Date.{month_of, date_of}
 use Rattle.calendar.specs.Calendar.{leap_f, day_within_f, in_leap_year_f, day_within_year_f, month_from_time_f, date_from_time_f}
 use Rattle.calendar.proofs.Wrap.{of-32, bit}
-use Rattle.calendar.proofs.Table.{month-by-then, date-number}
+use Rattle.calendar.proofs.Months.{month-by-then, date-number}
 use Rattle.calendar.proofs.year_month_date.Goals as goal
 use Rattle.calendar.proofs.year_month_date.Goals.{After-days_before, After-from-d, After-is_leap_year-leap}
 

@@ -1,29 +1,44 @@
--- The table of the days before each month, by one test over its two rows; and the month and the date of a day of the year by that table,
--- for every number of a day, also past the year's end. Assumes nothing.
+-- The formula of the days before each month, by one test over the 24 pairs of a kind of year and a month; and the month and the date of a day
+-- of the year by those days, for every number of a day, also past the year's end. Assumes nothing.
 use mathlib.Core.Path.{◌≡◌, refl, sym, ap, ◌∙◌, subst}
-use mathlib.Core.Bool.{Bool, cond}
+use mathlib.Core.Bool.{Bool, true, false, cond}
 use mathlib.Core.List.{List, [], ◌∷◌}
-use Prim.Native.Nat.{ℕ, suc, ◌+◌, ◌-◌, ◌/◌, ◌≤◌, ◌<◌}
+use Prim.Native.Nat.{ℕ, suc, ◌+◌, ◌*◌, ◌-◌, ◌/◌, ◌≤◌, ◌<◌}
 use native.Mathlib.Nat.{le_trans}
 use native.Mathlib.Omega.{arith}
-use borrow.Author.Tests.{le-ltb}
-use lib.Dec.{eqb, eqb→eq, leb, leb→le, ltb, ltb→lt, nltb→le, lit<}
+use borrow.Author.Tests.{lt-ltb, le-ltb}
+use lib.Dec.{T, eqb, eqb→eq, leb, leb→le, ltb, ltb→lt, nltb→le, lit<}
 use lib.IntN.{pos, nat_abs}
 use lib.ListN.{length, get_or}
+use mir.Val.{bool_byte}
 use Rattle.ecma262.specs.Date.{month_ends, first_after, days_before, month_of, date_of}
 use Rattle.integers.proofs.Int.{by-test}
 use Rattle.integers.proofs.Table.{all, all-at}
+use Rattle.calendar.proofs.Wrap.{bit, byte_is}
 use Rattle.ecma262.proofs.Months.{each-month, date-from, month-from, month-small}
 
--- of a common year and of a leap year
-unfoldable pub rows : List (List ℕ)
-rows =
-    (0 ∷ 31 ∷ 59 ∷ 90 ∷ 120 ∷ 151 ∷ 181 ∷ 212 ∷ 243 ∷ 273 ∷ 304 ∷ 334 ∷ []) ∷
-    (0 ∷ 31 ∷ 60 ∷ 91 ∷ 121 ∷ 152 ∷ 182 ∷ 213 ∷ 244 ∷ 274 ∷ 305 ∷ 335 ∷ []) ∷ []
+-- ---- the days before a month by a line, rounded down, of which from some month on some days come off, in a leap year one less: any line, any
+-- days and any such month that pass the test over the 24 pairs
+abbrev pub by_line : (early : Bool) (less leap days : ℕ) → ℕ
+by_line early less leap days = cond early days (days - less + leap)
 
-pub entry : (leap month : ℕ) → leap ≤ 1 → month < 12 → get_or (get_or rows leap []) month 0 ≡ days_before leap month
-unfolding rows days_before
-entry leap month h k = eqb→eq _ _ (each-month (λ l m. eqb (get_or (get_or rows l []) m 0) (days_before l m)) tt leap month h k)
+abbrev pub Agrees : (less slope start per from : ℕ) → Type 0
+Agrees less slope start per from = T (all (λ l. all (λ m. eqb (by_line (ltb m from) less l ((slope * m + start) / per)) (days_before l m)) 12) 2)
+
+module _ (less slope start per from month : ℕ) (b : Bool) where
+  each : (early : Bool) → ltb month from ≡ early → month < 12 → Agrees less slope start per from
+      → by_line early less (cond b 1 0) ((slope * month + start) / per) ≡ days_before (cond b 1 0) month
+  each early e h t =
+      ap (λ early. by_line early less (cond b 1 0) ((slope * month + start) / per)) (sym e) ∙
+      eqb→eq _ _ (each-month (λ l m. eqb (by_line (ltb m from) less l ((slope * m + start) / per)) (days_before l m)) t (cond b 1 0) month (bit b) h)
+
+  -- before that month, and from it on
+  pub early-is : month < from → month < 12 → Agrees less slope start per from → (slope * month + start) / per ≡ days_before (cond b 1 0) month
+  early-is g h t = each true (lt-ltb month from g) h t
+
+  pub late-is : (leap : ℕ) → leap ≡ bool_byte b → from ≤ month → month < 12 → Agrees less slope start per from
+      → (slope * month + start) / per - less + leap ≡ days_before (cond b 1 0) month
+  late-is leap e g h t = ap (λ (l : ℕ). (slope * month + start) / per - less + l) (e ∙ byte_is b) ∙ each false (le-ltb month from g) h t
 
 -- ---- the month of the day d of a year: d / 32 or the month after that, tested at each day up to the 351st
 pub month-by-32 : (leap d : ℕ) → leap ≤ 1 → d < 352 → month_of leap (pos d) ≡ cond (ltb d (days_before leap (d / 32 + 1))) (d / 32) (d / 32 + 1)
