@@ -32,13 +32,13 @@ module _ (less slope start per from month : ℕ) (b : Bool) where
       ap (λ early. by_line early less (cond b 1 0) ((slope * month + start) / per)) (sym e) ∙
       eqb→eq _ _ (each-month (λ l m. eqb (by_line (ltb m from) less l ((slope * m + start) / per)) (days_before l m)) t (cond b 1 0) month (bit b) h)
 
-  -- before that month, and from it on
+  -- before that month; and from it on, of days that are there to come off
   pub early-is : month < from → month < 12 → Agrees less slope start per from → (slope * month + start) / per ≡ days_before (cond b 1 0) month
   early-is g h t = each true (lt-ltb month from g) h t
 
-  pub late-is : (leap : ℕ) → leap ≡ bool_byte b → from ≤ month → month < 12 → Agrees less slope start per from
+  pub late-is : (leap : ℕ) → less ≤ (slope * month + start) / per → leap ≡ bool_byte b → from ≤ month → month < 12 → Agrees less slope start per from
       → (slope * month + start) / per - less + leap ≡ days_before (cond b 1 0) month
-  late-is leap e g h t = ap (λ (l : ℕ). (slope * month + start) / per - less + l) (e ∙ byte_is b) ∙ each false (le-ltb month from g) h t
+  late-is leap _ e g h t = ap (λ (l : ℕ). (slope * month + start) / per - less + l) (e ∙ byte_is b) ∙ each false (le-ltb month from g) h t
 
 -- ---- the month of the day d of a year: d / 32 or the month after that, tested at each day up to the 351st
 pub month-by-32 : (leap d : ℕ) → leap ≤ 1 → d < 352 → month_of leap (pos d) ≡ cond (ltb d (days_before leap (d / 32 + 1))) (d / 32) (d / 32 + 1)
