@@ -22,15 +22,18 @@ use Rattle.ecma262.proofs.Months.{each-month, date-from, month-from, month-small
 abbrev pub by_line : (early : Bool) (less leap days : ℕ) → ℕ
 by_line early less leap days = cond early days (days - less + leap)
 
+abbrev pub agrees : (less slope start per from leap month : ℕ) → Bool
+agrees less slope start per from leap month = eqb (by_line (ltb month from) less leap ((slope * month + start) / per)) (days_before leap month)
+
 abbrev pub Agrees : (less slope start per from : ℕ) → Type 0
-Agrees less slope start per from = T (all (λ l. all (λ m. eqb (by_line (ltb m from) less l ((slope * m + start) / per)) (days_before l m)) 12) 2)
+Agrees less slope start per from = T (all (λ leap. all (agrees less slope start per from leap) 12) 2)
 
 module _ (less slope start per from month : ℕ) (b : Bool) where
   each : (early : Bool) → ltb month from ≡ early → month < 12 → Agrees less slope start per from
       → by_line early less (cond b 1 0) ((slope * month + start) / per) ≡ days_before (cond b 1 0) month
   each early e h t =
       ap (λ early. by_line early less (cond b 1 0) ((slope * month + start) / per)) (sym e) ∙
-      eqb→eq _ _ (each-month (λ l m. eqb (by_line (ltb m from) less l ((slope * m + start) / per)) (days_before l m)) t (cond b 1 0) month (bit b) h)
+      eqb→eq _ _ (each-month (agrees less slope start per from) t (cond b 1 0) month (bit b) h)
 
   -- before that month; and from it on, of days that are there to come off
   pub early-is : month < from → month < 12 → Agrees less slope start per from → (slope * month + start) / per ≡ days_before (cond b 1 0) month
