@@ -1,7 +1,7 @@
 -- Why the years are 0000 to 9999, at written times that the checker computes: the first milliseconds of the years -2 and -1, and the last of
 -- 9999 with the first of 10000. Both times the earlier has the larger text. Assumes nothing.
 use mathlib.Core.Path.{◌≡◌, refl}
-use lib.IntN.{ℤ, pos, neg_ℤ}
+use lib.IntN.{pos, neg_ℤ}
 use lib.Signed.{◌<ℤ◌, lt_z_yes}
 use Rattle.ecma262.specs.Date.{days_in_year, day_from_year, year_from_time, month_of, date_of, days_before}
 use Rattle.ecma262.specs.Texts.{ascii, iso_year, iso_text}

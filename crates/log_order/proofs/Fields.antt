@@ -1,16 +1,16 @@
 -- The ISO text of a year 0 to 9999 is a row of seven numbers, the fields in order, and an earlier time has the smaller numbers: at the first
 -- field in which two times differ the earlier has the smaller number. So its text is the smaller one. Assumes nothing.
-use mathlib.Core.Path.{◌≡◌, refl, sym, ap, subst, ◌∙◌}
+use mathlib.Core.Path.{◌≡◌, sym, ap, subst, ◌∙◌}
 use mathlib.Core.List.{List, [], ◌∷◌, ◌++◌}
-use Prim.Native.Nat.{ℕ, ◌+◌, ◌-◌, ◌*◌, ◌/◌, ◌%◌, ◌^◌, ◌≤◌, ◌<◌}
+use Prim.Native.Nat.{ℕ, ◌+◌, ◌-◌, ◌/◌, ◌%◌, ◌≤◌, ◌<◌}
 use native.Mathlib.Omega.{arith}
-use lib.Dec.{T, ltb, leb, ltb→lt, nltb→le, leb→le}
-use lib.IntN.{ℤ, pos, negsuc, nat_abs, ◌-ℤ◌}
+use lib.Dec.{ltb, leb, ltb→lt, nltb→le, leb→le}
+use lib.IntN.{ℤ, pos, negsuc, nat_abs}
 use lib.Signed.{◌≤ℤ◌, ◌<ℤ◌}
 use Rattle.integers.proofs.Int.{ints, by-test, abs-out, at, ◌-ᵗ◌, ◌/ᵗ◌, read}
 use Rattle.integers.proofs.Table.{all, all-at}
-use Rattle.ecma262.specs.Date.{day_of_time, time_within_day, day_from_year, year_from_time, day_within_year, leap_of, month_from_time, date_from_time, days_before, hour_from_time, min_from_time, sec_from_time, ms_from_time, Fields, fields_of, Valid}
-use Rattle.ecma262.specs.Texts.{ascii, iso_year, iso_date, iso_time, iso_of, iso_text}
+use Rattle.ecma262.specs.Date.{time_within_day, day_from_year, year_from_time, leap_of, month_from_time, date_from_time, days_before, hour_from_time, min_from_time, sec_from_time, ms_from_time, Fields, fields_of, Valid}
+use Rattle.ecma262.specs.Texts.{ascii, iso_date, iso_time, iso_of, iso_text}
 use Rattle.ecma262.proofs.Clock.{hour-digit, min-digit, sec-digit, ms-digit}
 use Rattle.ecma262.proofs.Fields.{year_day, year-day, month-day, month-range, date-small, fields-valid}
 use Rattle.ecma262.proofs.Leap.{leap-small}

@@ -2,8 +2,8 @@
 -- bytes. Assumes nothing.
 use mathlib.Core.Path.{◌≡◌, refl, sym, ap, ◌∙◌, subst}
 use mathlib.Core.Logic.{inl, inr}
-use mathlib.Core.List.{List, ◌++◌}
-use Prim.Native.Nat.{ℕ, ◌+◌, ◌≤◌, ◌<◌}
+use mathlib.Core.List.{List}
+use Prim.Native.Nat.{ℕ, ◌+◌, ◌≤◌}
 use native.Mathlib.Omega.{arith}
 use lib.Dec.{leb, leb→le, nleb→lt}
 use lib.IntN.{ℤ, nat_abs}
@@ -22,7 +22,7 @@ use Rattle.reader.specs.Outcome.{read_outcome}
 use Rattle.writer.specs.Outcome.{Outcome, written}
 use Rattle.writer.specs.Writer.{iso_outcome}
 use Rattle.writer.proofs.Outcomes.{written-whole, written_none, iso-writes}
-use Rattle.rewrite.specs.Rewrite.{then_write, rewrite_outcome, run_of}
+use Rattle.rewrite.specs.Rewrite.{then_write, rewrite_outcome}
 use Rattle.demands.proofs.Demand2.{iso-text, accepts-exactly, answers-the-instant, denotes-one-instant}
 use Rattle.log_order.specs.Log.{InYears0To9999, Done, ByIsoWriter, ByRewriting, Line}
 use Rattle.log_order.proofs.Fields.{year-in-digits}

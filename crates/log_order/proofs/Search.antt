@@ -62,12 +62,14 @@ same-entry (e ∷ es) zero x y h = refl
 same-entry (e ∷ es) (suc k) x y h = same-entry es k x y (omega arith)
 
 pub earlier-place : (times : List ℤ) → NonFalling (λ t u. t <ℤ u) times → (u : ℤ) → (place : ℕ) × Parts (λ t. t <ℤ u) times place
-earlier-place times order u =
-    (p.at, record {
-      within = p.within;
-      ahead = λ k x h. subst (λ t. t <ℤ u) (same-entry times k (pos 0) x (omega (arith, p.within))) (lt_z_yes (p.ahead k h));
-      behind = λ k x h l b. T_not _ (p.behind k h l) (subst (λ t. t <ℤ u) (same-entry times k x (pos 0) l) b).lt;
-    })
+earlier-place times order u = (
+  p.at,
+  record {
+    within = p.within;
+    ahead = λ k x h. subst (λ t. t <ℤ u) (same-entry times k (pos 0) x (omega (arith, p.within))) (lt_z_yes (p.ahead k h));
+    behind = λ k x h l b. T_not _ (p.behind k h l) (subst (λ t. t <ℤ u) (same-entry times k x (pos 0) l) b).lt;
+  },
+)
   where
     p : Place (λ k. lt_z (get_or times k (pos 0)) u) (length times)
     p = place-of (λ k. lt_z (get_or times k (pos 0)) u) (length times)
