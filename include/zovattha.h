@@ -82,7 +82,13 @@ zovattha_answer zovattha_rewrite(const uint8_t *zone, size_t zone_len, const uin
  * `Invalid Date` for the UTC and the local writer. 36 bytes are enough for every text.
  */
 
-/* 2024-02-29T12:00:00.000Z; years outside 0 to 9999 as -000001 or +010000. 24 or 27 bytes. Refusals 2, 10, 11. */
+/*
+ * 2024-02-29T12:00:00.000Z; years outside 0 to 9999 as -000001 or +010000. 24 or 27 bytes. Refusals 2, 10, 11.
+ * Of two times in the years 0000 to 9999 (-62,167,219,200,000 to 253,402,300,799,999) the earlier has the smaller text, by memcmp of its 24
+ * bytes, and equal times have equal text; so it is of what zovattha_rewrite writes. Years with a sign are not in that order: year -2 is
+ * earlier than year -1, but -000002-01-01T00:00:00.000Z is larger than -000001-01-01T00:00:00.000Z; and the first text of year 10000,
+ * +010000-01-01T00:00:00.000Z, is smaller than every text of the years before it.
+ */
 zovattha_answer zovattha_to_iso_string(uint64_t time, uint8_t *out, size_t out_len);
 
 /* Thu, 29 Feb 2024 12:00:00 GMT. 29 to 32 bytes, or 12. Refusals 2, 11. */

@@ -91,6 +91,15 @@ pub fn write_iso_string(time: f64, out: &mut [u8]) -> Result<&str, Refusal> {
 /// assert_eq!(to_iso_string(f64::NAN), Err(Refusal::NoTime));
 /// ```
 ///
+/// Of two times in the years 0000 to 9999 the earlier has the smaller text, byte by byte, as `str` compares, and equal times have
+/// equal text. Years with a sign are not in that order.
+///
+/// ```
+/// let text = |time| zovattha::to_iso_string(time).unwrap();
+/// assert!(text(-1.0) < text(0.0)); // 1969-12-31T23:59:59.999Z and 1970-01-01T00:00:00.000Z
+/// assert!(text(-62230291200000.0) > text(-62198755200000.0)); // the first of year -2 and of year -1
+/// ```
+///
 /// # Errors
 /// [`Refusal::TimeValue`], [`NoTime`](Refusal::NoTime).
 pub fn to_iso_string(time: f64) -> Result<String, Refusal> {

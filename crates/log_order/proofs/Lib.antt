@@ -1,3 +1,4 @@
+mod Comparisons
 mod Digits
 mod Examples
 mod Fields
