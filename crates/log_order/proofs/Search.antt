@@ -52,7 +52,7 @@ module _ {A : Type 0} (Before : A → Type 0) (entries : List A) where
       (λ c. by-test (ltb b a) (λ d. absurd (apart b a q p (ltb→lt b a d))) (λ d. let g : b ≤ a = nltb→le a b c in let h : a ≤ b = nltb→le b a d in omega arith))
     where
       apart : (a b : ℕ) → Parts Before entries a → Parts Before entries b → a < b → ⊥
-      apart a b p q h = p.behind a x (omega arith) (omega (arith, q.within)) (q.ahead a x h)
+      apart a b p q h = p.behind a x (omega arith) (omega (arith, q.within)) (q.ahead a x (omega arith))
 
 -- ---- of instants in time order
 -- an entry is the same whatever would stand for one past the end

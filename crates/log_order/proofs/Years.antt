@@ -32,7 +32,7 @@ in-milliseconds t = (to, from)
   where
     to : InYears0To9999 t → (neg_ℤ (pos 62_167_219_200_000) ≤ℤ t) × (t ≤ℤ pos 253_402_300_799_999)
     to h = (
-      subst (λ z. z ≤ℤ t) begins.0 ((year-begun t (pos 0)).0 h.0),
+      subst (λ z. z ≤ℤ t) begins.0 ((year-begun t (pos 0)).0 (omega (ints, h.0))),
       by-test (lt_z t (pos 253_402_300_800_000)) (λ c. let l : t <ℤ pos 253_402_300_800_000 = lt_z_yes c in omega ints)
           (λ c. absurd (let y : pos 10000 ≤ℤ year_from_time t = (year-begun t (pos 10000)).1 (subst (λ z. z ≤ℤ t) (sym begins.1) (lt_z_no c)) in omega ints)),
     )
