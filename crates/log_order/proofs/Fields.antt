@@ -2,12 +2,12 @@
 -- field in which two times differ the earlier has the smaller number. So its text is the smaller one. Assumes nothing.
 use mathlib.Core.Path.{◌≡◌, sym, ap, subst, ◌∙◌}
 use mathlib.Core.List.{List, [], ◌∷◌, ◌++◌}
-use Prim.Native.Nat.{ℕ, ◌+◌, ◌-◌, ◌/◌, ◌%◌, ◌≤◌, ◌<◌}
+use Prim.Native.Nat.{ℕ, ◌+◌, ◌-◌, ◌*◌, ◌/◌, ◌%◌, ◌≤◌, ◌<◌}
 use native.Mathlib.Omega.{arith}
 use lib.Dec.{ltb, leb, ltb→lt, nltb→le, leb→le}
 use lib.IntN.{ℤ, pos, negsuc, nat_abs}
 use lib.Signed.{◌≤ℤ◌, ◌<ℤ◌}
-use Rattle.integers.proofs.Int.{ints, by-test, abs-out, at, ◌-ᵗ◌, ◌/ᵗ◌, read}
+use Rattle.integers.proofs.Int.{ints, by-test, abs-out, mod-small, at, ◌-ᵗ◌, ◌/ᵗ◌, read}
 use Rattle.integers.proofs.Table.{all, all-at}
 use Rattle.ecma262.specs.Date.{time_within_day, day_from_year, year_from_time, leap_of, month_from_time, date_from_time, days_before, hour_from_time, min_from_time, sec_from_time, ms_from_time, Fields, fields_of, Valid}
 use Rattle.ecma262.specs.Texts.{ascii, iso_date, iso_time, iso_of, iso_text}
@@ -86,8 +86,9 @@ same-size (negsuc a) y h k e = absurd h.le
 module _ (t u : ℤ) (h : t <ℤ u) where
   -- in one year
   module _ (same-year : year_from_time t ≡ year_from_time u) where
-    year-days : year_day t ≤ year_day u
-    year-days = omega (
+    -- the milliseconds since the year began
+    since-year : 86400000 * year_day t + time_within_day t < 86400000 * year_day u + time_within_day u
+    since-year = omega (
       ints,
       year-day t,
       year-day u,
@@ -95,6 +96,9 @@ module _ (t u : ℤ) (h : t <ℤ u) where
       read (at t /ᵗ 86400000 -ᵗ at (day_from_year (year_from_time t))),
       read (at u /ᵗ 86400000 -ᵗ at (day_from_year (year_from_time u))),
     )
+
+    year-days : year_day t ≤ year_day u
+    year-days = omega (arith, since-year, mod-small u 86399999)
 
     same-row : (m : ℕ) → days_before (leap_of (year_from_time t)) m ≡ days_before (leap_of (year_from_time u)) m
     same-row m = ap (λ y. days_before (leap_of y) m) same-year
@@ -117,14 +121,7 @@ module _ (t u : ℤ) (h : t <ℤ u) where
       within-day : nat_abs (date_from_time t) ≡ nat_abs (date_from_time u) → time_within_day t < time_within_day u
       within-day same-date =
           let same-day : year_day t ≡ year_day u = omega (arith, ap nat_abs (month-day t).3, ap nat_abs (month-day u).3, (month-day t).1, (month-day u).1, starts) in
-          omega (
-            ints,
-            year-day t,
-            year-day u,
-            ap day_from_year same-year,
-            read (at t /ᵗ 86400000 -ᵗ at (day_from_year (year_from_time t))),
-            read (at u /ᵗ 86400000 -ᵗ at (day_from_year (year_from_time u))),
-          )
+          omega (arith, since-year)
 
   numbers-ordered : InYears0To9999 t → InYears0To9999 u → Smaller (numbers (fields_of t)) (numbers (fields_of u))
   unfolding numbers

@@ -7,7 +7,10 @@ use Prim.Native.Nat.{ℕ, ◌+◌, ◌≤◌}
 use native.Mathlib.Omega.{arith}
 use lib.Dec.{leb, leb→le, nleb→lt}
 use lib.IntN.{ℤ, nat_abs}
-use lib.ListN.{length, drop}
+use lib.Ieee.{Float, binary64, of_bits, of_int}
+use lib.Ieee.Bits.{of_bits-to_bits}
+use lib.Ieee.Fits.{of_int-fits}
+use lib.ListN.{length, drop, replicate}
 use lib.Seq.{take_at}
 use Rattle.std.specs.Prelude.{Result, Ok, Err}
 use Rattle.integers.proofs.Int.{by-test}
@@ -15,6 +18,7 @@ use Rattle.ecma262.specs.Date.{InRange, year_from_time, fields_of}
 use Rattle.ecma262.specs.Texts.{iso_text}
 use Rattle.ecma262.proofs.Digits.{length_digits}
 use Rattle.ecma262.proofs.Texts.{iso-four, length-iso}
+use Rattle.float.specs.Whole.{IsWhole}
 use Rattle.answer.specs.Answer.{time_bits, answer_of, answer_of_time}
 use Rattle.answer.specs.declared.Refusal.{Refusal}
 use Rattle.reader.specs.Denotes.{AcceptedText}
@@ -23,7 +27,7 @@ use Rattle.writer.specs.Outcome.{Outcome, written}
 use Rattle.writer.specs.Writer.{iso_outcome}
 use Rattle.writer.proofs.Outcomes.{written-whole, written_none, iso-writes}
 use Rattle.rewrite.specs.Rewrite.{then_write, rewrite_outcome}
-use Rattle.demands.proofs.Demand2.{iso-text, accepts-exactly, answers-the-instant, denotes-one-instant}
+use Rattle.demands.proofs.Demand2.{each-millisecond, iso-text, accepts-exactly, answers-the-instant, denotes-one-instant}
 use Rattle.log_order.specs.Log.{InYears0To9999, Done, ByIsoWriter, ByRewriting, Line}
 use Rattle.log_order.proofs.Fields.{year-in-digits}
 use Rattle.log_order.proofs.Years.{years-in-range}
@@ -72,9 +76,10 @@ length-24 t y =
     length-iso (fields_of t)
     ∙ ap (λ n. n + 20) (sym (ap length (iso-four (year_from_time t) y.0 (year-in-digits t y))) ∙ length_digits 4 (nat_abs (year_from_time t)))
 
-pub iso-writer-done : (t : ℤ) → InYears0To9999 t → (out : List ℕ) → 24 ≤ length out → Done (iso_outcome (time_bits t) out) (iso_text t)
-iso-writer-done t y out l =
-    subst (λ (o : Outcome). Done o (iso_text t)) (sym (iso-writes t (years-in-range t y) out))
+pub iso-writer-done : (t : ℤ) → InYears0To9999 t → (time : ℕ) → IsWhole (of_bits binary64 time) t → (out : List ℕ) → 24 ≤ length out
+    → Done (iso_outcome time out) (iso_text t)
+iso-writer-done t y time v out l =
+    subst (λ (o : Outcome). Done o (iso_text t)) (sym (iso-text time t v (years-in-range t y) out))
     (whole-run (time_bits t) (iso_text t) out (omega (arith, length-24 t y)))
 
 pub rewriting-done : (zone text : List ℕ) (a : AcceptedText zone text) → InYears0To9999 a.t → (out : List ℕ) → 24 ≤ length out
@@ -82,3 +87,13 @@ pub rewriting-done : (zone text : List ℕ) (a : AcceptedText zone text) → InY
 rewriting-done zone text a y out l =
     subst (λ (o : Outcome). Done o (iso_text a.t)) (sym (rewriting-writes a out))
     (whole-run (time_bits a.t) (iso_text a.t) out (omega (arith, length-24 a.t y)))
+
+-- each instant of these years has its line
+pub each-line : (t : ℤ) → InYears0To9999 t → Line t (iso_text t)
+each-line t y =
+    (y, inl (record { time = time_bits t; out = replicate 24 0; value = value; done = iso-writer-done t y (time_bits t) value (replicate 24 0) (omega arith) }))
+  where
+    value : IsWhole (of_bits binary64 (time_bits t)) t
+    value =
+        subst (λ (x : Float). IsWhole x t) (sym (of_bits-to_bits binary64 (of_int binary64 t) (of_int-fits binary64 t)))
+        (each-millisecond t (years-in-range t y)).0

@@ -12,15 +12,17 @@
 -- Assumes nothing.
 use mathlib.Core.Path.{◌≡◌}
 use mathlib.Core.Bool.{true}
-use mathlib.Core.List.{List}
+use mathlib.Core.List.{List, map}
 use mathlib.Core.Logic.{◌⊎◌, ◌↔◌}
 use Prim.Native.Nat.{ℕ, ◌≤◌, ◌<◌}
 use lib.IntN.{ℤ, pos, neg_ℤ}
+use lib.Ieee.{binary64, of_bits}
 use lib.ListN.{length, get_or}
 use lib.Signed.{◌≤ℤ◌, ◌<ℤ◌}
+use Rattle.std.specs.Prelude.{All}
 use Rattle.ecma262.specs.Date.{InRange}
 use Rattle.ecma262.specs.Texts.{ascii, iso_text}
-use Rattle.answer.specs.Answer.{time_bits}
+use Rattle.float.specs.Whole.{IsWhole}
 use Rattle.reader.specs.Denotes.{AcceptedText}
 use Rattle.writer.specs.Writer.{iso_outcome}
 use Rattle.rewrite.specs.Rewrite.{rewrite_outcome}
@@ -76,15 +78,24 @@ earlier-line-exactly-when-smaller = order.line-order
 pub equal-line-exactly-when-equal : {t u : ℤ} {s w : List ℕ} → Line t s → Line u w → (t ≡ u) ↔ (s ≡ w)
 equal-line-exactly-when-equal = order.line-equal
 
--- and they write one for each instant of these years, into every output of 24 bytes or more
-pub iso-writer-writes-each : (t : ℤ) → InYears0To9999 t → (out : List ℕ) → 24 ≤ length out → Done (iso_outcome (time_bits t) out) (iso_text t)
+-- and they write one for each instant of these years, given by any bits of it or by any text that is accepted and denotes it, into every output
+-- of 24 bytes or more; so there are such lines
+pub iso-writer-writes-each : (t : ℤ) → InYears0To9999 t → (time : ℕ) → IsWhole (of_bits binary64 time) t → (out : List ℕ) → 24 ≤ length out
+    → Done (iso_outcome time out) (iso_text t)
 iso-writer-writes-each = lines.iso-writer-done
 
 pub rewriting-writes-each : (zone text : List ℕ) (a : AcceptedText zone text) → InYears0To9999 a.t → (out : List ℕ) → 24 ≤ length out
     → Done (rewrite_outcome zone text out) (iso_text a.t)
 rewriting-writes-each = lines.rewriting-done
 
+pub lines-exist : (t : ℤ) → InYears0To9999 t → Line t (iso_text t)
+lines-exist = lines.each-line
+
 -- ---- "The search in the next play log halves on raw bytes."
+
+-- the texts of any instants of these years make a log
+pub texts-make-a-log : (times : List ℤ) → All InYears0To9999 times → Log times (map iso_text times)
+texts-make-a-log = search.texts-log
 
 -- a log is in the order of its instants exactly when it is in the order of its bytes
 pub time-order-exactly-when-byte-order : {times : List ℤ} {log : List (List ℕ)} → Log times log → NonFalling (λ t u. t <ℤ u) times ↔ NonFalling Smaller log

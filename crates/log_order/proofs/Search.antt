@@ -1,28 +1,31 @@
 -- A search by halving in a log: a list along which what is sought never comes back has exactly one place that parts it; and of a log's
 -- instants and lines each such place is one of the other. Assumes nothing.
-use mathlib.Core.Path.{◌≡◌, refl, subst}
+use mathlib.Core.Path.{◌≡◌, refl, sym, ◌∙◌, subst}
 use mathlib.Core.Bool.{Bool, not}
 use mathlib.Core.Logic.{◌↔◌}
-use mathlib.Core.List.{List, [], ◌∷◌}
+use mathlib.Core.List.{List, [], ◌∷◌, map}
 use Prim.Native.Nat.{ℕ, zero, suc, ◌≤◌, ◌<◌}
 use native.Mathlib.Omega.{arith}
 use lib.Dec.{T, T_not, ltb, ltb→lt, nltb→le}
 use lib.IntN.{ℤ, pos}
 use lib.Signed.{lt_z, ◌≤ℤ◌, ◌<ℤ◌, lt_z_yes, lt_z_no}
-use lib.ListN.{length, get_or}
+use lib.ListN.{length, length-map, get_or, get_or-map}
+use Rattle.std.specs.Prelude.{All}
 use Rattle.integers.proofs.Int.{ints, by-test}
+use Rattle.ecma262.specs.Texts.{iso_text}
 use Rattle.log_order.specs.Smaller.{Smaller}
-use Rattle.log_order.specs.Log.{Log, Line, NonFalling, Parts}
+use Rattle.log_order.specs.Log.{InYears0To9999, Log, Line, NonFalling, Parts}
+use Rattle.log_order.proofs.Lines.{each-line}
 use Rattle.log_order.proofs.Order.{line-order, line-equal}
 
 -- ---- one test at the places 0, .., n - 1, which does not pass again once it has failed
-record Place (test : ℕ → Bool) (n : ℕ) : Type 0 where
+record Found (test : ℕ → Bool) (n : ℕ) : Type 0 where
   pub at : ℕ
   pub within : at ≤ n
   pub ahead : (k : ℕ) → k < at → T (test k)
   pub behind : (k : ℕ) → at ≤ k → k < n → T (not (test k))
 
-place-of : (test : ℕ → Bool) (n : ℕ) → ((i j : ℕ) → i < j → j < n → T (test j) → T (test i)) → Place test n
+place-of : (test : ℕ → Bool) (n : ℕ) → ((i j : ℕ) → i < j → j < n → T (test j) → T (test i)) → Found test n
 place-of test zero f = record { at = 0; within = omega arith; ahead = λ k h. absurd (omega arith); behind = λ k h l. absurd (omega arith) }
 place-of test (suc n) f =
     by-test (test n)
@@ -34,7 +37,7 @@ place-of test (suc n) f =
     })
     (λ c. longer c (place-of test n (λ i j h l. f i j h (omega arith))))
   where
-    longer : T (not (test n)) → Place test n → Place test (suc n)
+    longer : T (not (test n)) → Found test n → Found test (suc n)
     longer c p =
         record {
           at = p.at;
@@ -71,7 +74,7 @@ earlier-place times order u = (
   },
 )
   where
-    p : Place (λ k. lt_z (get_or times k (pos 0)) u) (length times)
+    p : Found (λ k. lt_z (get_or times k (pos 0)) u) (length times)
     p = place-of (λ k. lt_z (get_or times k (pos 0)) u) (length times)
         (λ i j h l c. by-test (lt_z (get_or times i (pos 0)) u) (λ d. d)
         (λ d. absurd (order i j (pos 0) h l (let f : get_or times j (pos 0) <ℤ u = lt_z_yes c in let g : u ≤ℤ get_or times i (pos 0) = lt_z_no d in omega ints))))
@@ -117,3 +120,14 @@ module _ {times : List ℤ} {lines : List (List ℕ)} (log : Log times lines) wh
       let p = earlier-place times order u in
       let there : Parts (λ s. Smaller s w) lines p.0 = (same-place q p.0).0 p.1 in
       (p.0, there, λ other o. one-place (λ s. Smaller s w) lines other p.0 [] o there)
+
+-- ---- the texts of any instants of these years are a log
+pub texts-log : (times : List ℤ) → All InYears0To9999 times → Log times (map iso_text times)
+texts-log times y =
+    record {
+      as-many = sym (length-map times iso_text);
+      each = λ k t line h.
+          let l : k < length times = subst (λ n. k < n) (length-map times iso_text) h in
+          subst (Line (get_or times k t)) (sym (get_or-map iso_text times k t) ∙ same-entry (map iso_text times) k (iso_text t) line h)
+          (each-line (get_or times k t) (y k t l));
+    }
