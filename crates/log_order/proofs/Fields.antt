@@ -10,7 +10,7 @@ use lib.Signed.{◌≤ℤ◌, ◌<ℤ◌}
 use Rattle.integers.proofs.Int.{ints, by-test, abs-out, mod-small, at, ◌-ᵗ◌, ◌/ᵗ◌, read}
 use Rattle.integers.proofs.Table.{all, all-at}
 use Rattle.ecma262.specs.Date.{time_within_day, day_from_year, year_from_time, leap_of, month_from_time, date_from_time, days_before, hour_from_time, min_from_time, sec_from_time, ms_from_time, Fields, fields_of, Valid}
-use Rattle.ecma262.specs.Texts.{ascii, iso_date, iso_time, iso_of, iso_text}
+use Rattle.ecma262.specs.Texts.{iso_date, iso_time, iso_of, iso_text}
 use Rattle.ecma262.proofs.Clock.{hour-digit, min-digit, sec-digit, ms-digit}
 use Rattle.ecma262.proofs.Fields.{year_day, year-day, month-day, month-range, date-small, fields-valid}
 use Rattle.ecma262.proofs.Leap.{leap-small}
@@ -19,28 +19,18 @@ use Rattle.ecma262.proofs.Texts.{iso-four}
 use Rattle.log_order.specs.Smaller.{Smaller}
 use Rattle.log_order.specs.Log.{InYears0To9999}
 use Rattle.log_order.proofs.Smaller.{at-once, later}
-use Rattle.log_order.proofs.Digits.{Place, prints, Fit, row-ordered}
+use Rattle.log_order.proofs.Digits.{prints, Fit, row-ordered}
+use Rattle.log_order.proofs.Row.{places, numbers}
 use Rattle.log_order.proofs.Years.{year-not-later}
 
--- ---- the text as a row of numbers: `YYYY-MM-DDTHH:mm:ss.sssZ`
-place : ℕ → List ℕ → Place
-place width behind = record { width = width; behind = behind }
-
-places : List Place
-places = place 4 (ascii "-") ∷ place 2 (ascii "-") ∷ place 2 (ascii "T") ∷ place 2 (ascii ":") ∷ place 2 (ascii ":") ∷ place 2 (ascii ".") ∷ place 3 (ascii "Z") ∷ []
-
-numbers : Fields → List ℕ
-numbers f = nat_abs f.year ∷ (f.month + 1) ∷ f.date ∷ f.hour ∷ f.minute ∷ f.second ∷ f.ms ∷ []
-
+-- ---- the text as a row of numbers
 iso-prints : (f : Fields) → pos 0 ≤ℤ f.year → nat_abs f.year < 10000 → prints places (numbers f) ≡ iso_of f
-unfolding places place numbers
 iso-prints f h k = ap (λ (y : List ℕ). (y ++ iso_date f) ++ iso_time f) (iso-four f.year h k)
 
 pub year-in-digits : (t : ℤ) → InYears0To9999 t → nat_abs (year_from_time t) < 10000
 year-in-digits t h = let b : nat_abs (year_from_time t) ≤ 9999 = abs-out (year_from_time t) (omega (ints, h.0, h.1)) in omega arith
 
 numbers-fit : (t : ℤ) → InYears0To9999 t → Fit places (numbers (fields_of t))
-unfolding places place numbers
 numbers-fit t h =
     let v : Valid (fields_of t) = fields-valid t in
     (year-in-digits t h, (omega (arith, v.month-ok), (omega (arith, date-small t), (omega (arith, v.hour-ok), (omega (arith, v.minute-ok), (omega (arith, v.second-ok), (v.ms-ok, tt)))))))
@@ -124,7 +114,6 @@ module _ (t u : ℤ) (h : t <ℤ u) where
           omega (arith, since-year)
 
   numbers-ordered : InYears0To9999 t → InYears0To9999 u → Smaller (numbers (fields_of t)) (numbers (fields_of u))
-  unfolding numbers
   numbers-ordered a b =
       not-larger (sizes (year_from_time t) (year_from_time u) a.0 (year-not-later h))
       (λ y. let same-year : year_from_time t ≡ year_from_time u = same-size (year_from_time t) (year_from_time u) a.0 b.0 y in

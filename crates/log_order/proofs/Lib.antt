@@ -4,6 +4,7 @@ mod Examples
 mod Fields
 mod Lines
 mod Order
+mod Row
 mod Search
 mod Smaller
 mod Years
