@@ -15,11 +15,13 @@ use mathlib.Core.Bool.{true}
 use mathlib.Core.List.{List, map}
 use mathlib.Core.Logic.{◌⊎◌, ◌↔◌}
 use Prim.Native.Nat.{ℕ, ◌≤◌, ◌<◌}
+use native.Mathlib.Omega.{arith}
 use lib.IntN.{ℤ, pos, neg_ℤ}
 use lib.Ieee.{binary64, of_bits}
 use lib.ListN.{length, get_or}
 use lib.Signed.{◌≤ℤ◌, ◌<ℤ◌}
 use Rattle.std.specs.Prelude.{All}
+use Rattle.integers.proofs.Int.{ints}
 use Rattle.ecma262.specs.Date.{InRange}
 use Rattle.ecma262.specs.Texts.{ascii, iso_text}
 use Rattle.float.specs.Whole.{IsWhole}
@@ -55,13 +57,14 @@ smaller-is-total = bytes.one-is-smaller
 
 -- YearFromTime(t) is from 0 to 9999 exactly for these milliseconds; all of them are instants, and their ISO texts have 24 bytes
 pub years-in-milliseconds : (t : ℤ) → InYears0To9999 t ↔ ((neg_ℤ (pos 62_167_219_200_000) ≤ℤ t) × (t ≤ℤ pos 253_402_300_799_999))
-years-in-milliseconds = years.in-milliseconds
+years-in-milliseconds t =
+    let law = years.in-milliseconds t in (λ h. (omega (ints, (law.0 h).0), omega (ints, (law.0 h).1)), λ h. law.1 (omega (ints, h.0), omega (ints, h.1)))
 
 pub years-are-in-range : (t : ℤ) → InYears0To9999 t → InRange t
 years-are-in-range = years.years-in-range
 
 pub texts-have-24-bytes : (t : ℤ) → InYears0To9999 t → length (iso_text t) ≡ 24
-texts-have-24-bytes = lines.length-24
+texts-have-24-bytes t y = omega (arith, lines.length-24 t y)
 
 -- ---- "the earlier has the smaller ISO text …, and … equal instants have equal text": both ways
 
