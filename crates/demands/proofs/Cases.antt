@@ -46,7 +46,7 @@ numbers : (call : Call) → Finite call first_is_one
 unfolding field_at place_of little_endian of_bits of_fields ones
 numbers call =
     record {
-      first = refl;
+      year = λ e. refl;
       each = λ bit h s.
           subst (λ (b : Bool). T (cond b (finite (field_at first_is_one bit)) true)) s
           (all-at (λ bit. cond (stands first_is_one bit) (finite (field_at first_is_one bit)) true) 7 tt bit (wider call bit h));

@@ -18,7 +18,7 @@
 -- The differential run is no theorem: docs/DIFFERENTIAL.md. That accepted lists exist, Demand3 says. The proofs are by the laws that are
 -- cited. Assumes nothing.
 use mathlib.Core.Path.{◌≡◌, sym, ap, ◌∙◌}
-use mathlib.Core.Bool.{Bool, true, false}
+use mathlib.Core.Bool.{Bool, true, false, true≢false}
 use mathlib.Core.List.{List, [], ◌++◌}
 use mathlib.Core.Logic.{◌↔◌, ◌⊎◌}
 use Prim.Native.Nat.{ℕ, ◌≤◌}
@@ -31,23 +31,28 @@ use Rattle.ecma262.specs.Domain.{Shown}
 use Rattle.ecma262.specs.Texts.{iso_text, utc_text, local_text, invalid_date}
 use Rattle.ecma262.proofs.Year.{year-is, year-unique}
 use Rattle.ecma262.proofs.Fields.{year-day, date-natural, make-day-is, make-day-unique}
+use Rattle.ecma262.proofs.Range.{clip-inside}
 use Rattle.ecma262.proofs.Texts.{lengths-iso, lengths-utc, lengths-local, length-invalid}
 use Rattle.float.specs.Whole.{IsWhole}
 use Rattle.float.proofs.Whole.{of_int-whole}
 use Rattle.calendar.proofs.Whole as whole
 use Rattle.make.specs.Make.{time_value}
 use Rattle.zone.specs.Zone.{Accepted, records}
+use Rattle.timevalue.specs.declared.TimeValue.{TimeValue}
+use Rattle.timevalue.specs.TimeValue.{time_value_of}
+use Rattle.field_record.specs.FieldRecord.{stands, field_at}
 use Rattle.local.specs.Local.{offset_of_instant, offset_of_suffix, local_time, utc_time}
 use Rattle.local.proofs.Whole.{local-time-shown}
 use Rattle.answer.specs.Answer.{nan_value, time_bits}
 use Rattle.answer.specs.declared.Refusal.TheVariants.{NoTime}
-use Rattle.std.specs.Prelude.{Ok}
+use Rattle.std.specs.Prelude.{Some, IsSome, Ok}
 use Rattle.new_date.specs.declared.Part.{Part}
 use Rattle.new_date.specs.declared.Part.TheVariants.{FullYear}
-use Rattle.new_date.specs.Calls.{Call, build, set}
-use Rattle.new_date.specs.Standard.{argument_z, new_date_z, shift_in_z, value_from_z, Exact, Passes}
-use Rattle.fields.specs.Outcome.{time_reply, build_outcome, set_outcome}
-use Rattle.fields.proofs.Outcomes.{build-exact, set-exact, set-of-nan, set-year-of-nan}
+use Rattle.new_date.specs.Calls.{Call, build, set, WrittenIn}
+use Rattle.new_date.specs.Standard.{no_field, argument_z, new_date_z, shift_in_z, shift_out_z, value_from_z, Exact, Passes}
+use Rattle.new_date.proofs.NoField.{no-field-exact}
+use Rattle.fields.specs.Outcome.{start_of, time_reply, build_outcome, set_outcome}
+use Rattle.fields.proofs.Outcomes.{build-exact, build-first-nan, build-written-in, set-exact, set-first-nan, set-no-field, set-no-year-of-nan, set-of-nan, set-written-in, set-year-of-nan}
 use Rattle.reader.specs.Denotes.{Denotes, AcceptedText}
 use Rattle.reader.specs.Outcome.{read_outcome}
 use Rattle.reader.proofs.Denotation.{denotes-unique}
@@ -115,16 +120,47 @@ pub building-local-fields : (zone fields : List ℕ) → Passes build true zone 
 unfolding new_date_z value_from_z
 building-local-fields zone fields p e = build-exact true zone fields p e
 
--- "In the exact domain the setters too are proved to follow the standard's own steps": the date is the whole number z, by any of its bits
+-- "In the exact domain the setters too are proved to follow the standard's own steps", whichever fields are absent: "in a setter every absent
+-- field keeps its present value, the first too". The date is the whole number z, by any of its bits
 pub setters-follow-the-standard : (first : Part) (local : Bool) (zone : List ℕ) (time : ℕ) (fields : List ℕ) (z : ℤ) → Passes (set first) local zone fields
     → IsWhole (of_bits binary64 time) z → InRange z → Exact (set first) (shift_in_z local (records zone) z) fields
     → set_outcome first local zone time fields ≡ time_reply (steps_from (set first) local zone (shift_in_z local (records zone) z) fields)
 unfolding value_from_z
 setters-follow-the-standard first local zone time fields z p w r e = set-exact first local zone fields p time z w r e
 
--- the exact domain is not empty: every call, UTC or local, has a record in it
+-- the exact domain is not empty: every call, UTC or local, has a record in it, and a setter's record may leave out every field
 pub exact-records-exist : (call : Call) (local : Bool) → Passes call local zero_list first_is_one × Exact call (shift_in_z local (records zero_list) (pos 0)) first_is_one
 exact-records-exist = cases.exact-records-exist
+
+pub no-field-is-exact : (first : Part) (t : ℤ) → Shown t → Exact (set first) t no_field
+no-field-is-exact = no-field-exact
+
+-- "A gap before a given argument … equals the call with the value just said written in": gap's absent fields are given in full
+pub setter-with-gaps-filled : (first : Part) (local : Bool) (zone : List ℕ) (time : ℕ) (gap full : List ℕ) (v : TimeValue) → Passes (set first) local zone gap → Passes (set first) local zone full
+    → time_value_of time ≡ Some v → WrittenIn (set first) (start_of local (records zone) v) gap full
+    → set_outcome first local zone time gap ≡ set_outcome first local zone time full
+setter-with-gaps-filled first local zone time gap full v p q e w = set-written-in first local zone gap full p q time v e w
+
+pub builder-with-gaps-filled : (local : Bool) (zone gap full : List ℕ) → Passes build local zone gap → Passes build local zone full → WrittenIn build nan gap full
+    → build_outcome local zone gap ≡ build_outcome local zone full
+builder-with-gaps-filled = build-written-in
+
+-- a bare map of 0 is a call like any other: in UTC it gives the time back, locally `utc_t` of `local_time`
+pub no-field-in-utc : (first : Part) (time : ℕ) (z : ℤ) → IsWhole (of_bits binary64 time) z → InRange z → set_outcome first false [] time no_field ≡ Ok (time_bits z)
+no-field-in-utc first time z w r = set-no-field first false [] (λ e. absurd (true≢false (sym e))) time z w r ∙ ap (λ v. time_reply (time_value v)) (clip-inside z r)
+
+pub no-field-locally : (first : Part) (zone : List ℕ) → Accepted zone → (time : ℕ) (z : ℤ) → IsWhole (of_bits binary64 time) z → InRange z
+    → set_outcome first true zone time no_field ≡ time_reply (time_value (time_clip (utc_time (records zone) (local_time (records zone) z))))
+no-field-locally first zone a time z w r = set-no-field first true zone (λ e. a) time z w r
+
+-- a given first field that is NaN gives NaN, of any date: so a date is cleared
+pub first-field-nan : (first : Part) (local : Bool) (zone : List ℕ) (time : ℕ) (fields : List ℕ) → Passes (set first) local zone fields
+    → IsSome (time_value_of time) → stands fields 0 ≡ true → field_at fields 0 ≡ nan → set_outcome first local zone time fields ≡ time_reply nan
+first-field-nan first local zone time fields p v s e = set-first-nan first local zone fields p time v s e
+
+-- and in the builder "year NaN" where it is absent
+pub absent-year : (local : Bool) (zone fields : List ℕ) → Passes build local zone fields → stands fields 0 ≡ false → build_outcome local zone fields ≡ time_reply nan
+absent-year local zone fields p s = build-first-nan local zone fields p s
 
 -- "Every setter but `set_full_year` gives NaN for NaN; that one starts from 0, with no local shift."
 pub setters-of-nan : (first : Part) (local : Bool) (zone : List ℕ) (time : ℕ) (fields : List ℕ) → Passes (set first) local zone fields
@@ -136,6 +172,11 @@ pub full-year-of-nan : (local : Bool) (zone : List ℕ) (time : ℕ) (fields : L
     → set_outcome FullYear local zone time fields ≡ time_reply (steps_from (set FullYear) local zone (pos 0) fields)
 unfolding value_from_z
 full-year-of-nan local zone time fields p n e = set-year-of-nan local zone fields p time n e
+
+-- so its absent year is 1970, and with a bare map of 0 its date is that of 0
+pub no-field-full-year-of-nan : (local : Bool) (zone : List ℕ) → (local ≡ true → Accepted zone) → (time : ℕ) → of_bits binary64 time ≡ nan
+    → set_outcome FullYear local zone time no_field ≡ time_reply (time_value (time_clip (shift_out_z local (records zone) (pos 0))))
+no-field-full-year-of-nan = set-no-year-of-nan
 
 -- ---- "the reader accepts exactly the Date Time String Format as 01 sets it and answers the instant that 01 says the text denotes"
 

@@ -66,7 +66,18 @@ rows =
     set Month false [] 0x4278d5cd0bc00000 (fields_of 1 (0x3ff0000000000000 ∷ [])) 0 0x4278dfc75e000000 ∷  -- document 01: month setter, 1706659200000, month 1: 1709337600000
     set FullYear false [] 0x7ff8000000000000 (fields_of 1 (0x409fa00000000000 ∷ [])) 0 0x4278cc251f400000 ∷  -- document 01: full year setter, NaN, 2024: 1704067200000
     set FullYear true marked 0xfff8000000000001 (fields_of 1 (0x409ec80000000000 ∷ [])) 0 0xc15b774000000000 ∷  -- NaN starts from 0 with no shift in; the shift out still applies: -7200000
-    set Hours false [] 0x0 (fields_of 2 (0x403e000000000000 ∷ [])) 0 0x7ff8000000000000 ∷  -- an absent first argument is NaN
+    set Hours false [] 0x418a524800000000 (fields_of 2 (0x403e000000000000 ∷ [])) 0 0x418a9b8600000000 ∷  -- the minute alone: of 15:20 the hour remains, 15:30
+    set Seconds false [] 0x419578e324000000 (fields_of 2 (0x4014000000000000 ∷ [])) 0 0x419578e334000000 ∷  -- of 01:01:01.001 the second remains
+    set Minutes false [] 0x419578e324000000 (fields_of 4 (0x4014000000000000 ∷ [])) 0 0x419578e334000000 ∷  -- minute and second remain
+    set Month false [] 0x419578e324000000 (fields_of 2 (0x4014000000000000 ∷ [])) 0 0x41b4d14cc9000000 ∷  -- of 2 January the month remains
+    set FullYear false [] 0x4278df2292800000 (fields_of 4 (0x3ff0000000000000 ∷ [])) 0 0x4278d61f71800000 ∷  -- of 2024-02-29, date 1: year and month remain, 2024-02-01
+    set Minutes true marked 0x0 (fields_of 0 []) 0 0x414b774000000000 ∷  -- locally a bare map of 0 is `utc_t` of `local_time`, here another instant
+    set Milliseconds false [] 0x419578e324000000 (fields_of 0 []) 0 0x419578e324000000 ∷  -- in UTC it gives the time back
+    set Date false [] 0x419578e324000000 (fields_of 0 []) 0 0x419578e324000000 ∷  -- the date remains
+    set FullYear false [] 0x7ff8000000000000 (fields_of 0 []) 0 0x0 ∷  -- the full year of a NaN date is 1970
+    set FullYear true marked 0x7ff8000000000000 (fields_of 0 []) 0 0xc15b774000000000 ∷  -- and its date is shifted out
+    set Hours false [] 0x7ff8000000000000 (fields_of 0 []) 0 0x7ff8000000000000 ∷  -- any other setter of NaN is NaN
+    set Hours false [] 0x418a524800000000 (fields_of 1 (0x7ff8000000000000 ∷ [])) 0 0x7ff8000000000000 ∷  -- a NaN first field clears the date
     set FullYear false [] 0x4278df2292800000 (fields_of 5 (0x409f9c0000000000 ∷ 0x3ff0000000000000 ∷ [])) 0 0x427860a45ec00000 ∷  -- a gap keeps its present value: of 2024-02-29, year 2023 and date 1: 2023-02-01
     set Hours true marked 0x0 (fields_of 1 (0x0 ∷ [])) 0 0xc15b774000000000 ∷  -- 02:00 local to 00:00 local: -7200000
     set Milliseconds false [] 0x8000000000000000 (fields_of 1 (0xbff8000000000000 ∷ [])) 0 0xbff0000000000000 ∷  -- -0 is 0, and -1.5 is cut to -1

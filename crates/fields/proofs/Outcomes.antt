@@ -3,12 +3,15 @@
 use mathlib.Core.Path.{◌≡◌, refl, sym, ap, ◌∙◌, subst}
 use mathlib.Core.Bool.{Bool, true, false, not, cond, ◌&&◌}
 use mathlib.Core.List.{List, []}
-use Prim.Native.Nat.{ℕ, ◌<◌}
+use Prim.Native.Nat.{ℕ, ◌<◌, ◌^◌}
+use borrow.Author.Tests.{lt-leb}
+use lib.Count.{ones}
 use lib.Dec.{lit≤}
+use lib.Pow.{pow_pos}
 use lib.IntN.{ℤ, pos}
 use lib.Ieee.{Float, nan, binary64, of_bits}
 use lib.Ieee.Scale.{finite}
-use Rattle.ecma262.specs.Date.{InRange}
+use Rattle.ecma262.specs.Date.{InRange, time_clip}
 use Rattle.float.specs.Whole.{IsWhole, trunc_z}
 use Rattle.float.proofs.Rounding.{number-unique, trunc_z-whole}
 use Rattle.calendar.specs.Calendar.{num}
@@ -26,12 +29,14 @@ use Rattle.answer.specs.declared.Refusal.TheVariants as fault
 use Rattle.std.specs.Prelude.{Option, Some, None, IsSome, Result, Err}
 use Rattle.new_date.specs.declared.Part.{Part}
 use Rattle.new_date.specs.declared.Part.TheVariants.{FullYear}
-use Rattle.new_date.specs.Calls.{build, set, bits_of, absent, new_date, new_date_of, value_from}
+use Rattle.new_date.specs.Calls.{build, set, bits_of, absent, WrittenIn, new_date, new_date_of, value_from}
 use Rattle.fields.specs.Outcome.{start_of, value_of, taken, refuse, zone_row, time_row, record_rows, time_reply, build_outcome, set_outcome}
-use Rattle.new_date.specs.Standard.{shift_in_z, value_from_z, Exact, Passes}
+use Rattle.new_date.specs.Standard.{no_field, shift_in_z, shift_out_z, value_from_z, Exact, Passes}
 use Rattle.fields.proofs.Rows.{start-whole}
 use Rattle.new_date.proofs.Exact.{value-exact}
-use Rattle.new_date.proofs.Values.{from-time-value, given-nan, first-nan, nan-date, year-of-nan}
+use Rattle.new_date.proofs.NoField.{no-field-exact, no-field-value}
+use Rattle.new_date.proofs.WrittenIn.{written-in}
+use Rattle.new_date.proofs.Values.{from-time-value, given-nan, has-first, year-nan, nan-date, year-of-nan}
 
 -- ---- past the rows
 list-row : (local : Bool) (zone : List ℕ) → (local ≡ true → Accepted zone) → (local && not (accepts zone)) ≡ false
@@ -69,8 +74,17 @@ module _ (first : Part) (local : Bool) (zone fields : List ℕ) (p : Passes (set
       → set_outcome first local zone time fields ≡ time_reply nan
   set-field-nan time i r h s e = nan-anyway time (λ t. given-nan (set first) local (records zone) t fields i h s e) r
 
-  pub set-first-nan : (time : ℕ) → IsSome (time_value_of time) → stands fields 0 ≡ false → set_outcome first local zone time fields ≡ time_reply nan
-  set-first-nan time r s = nan-anyway time (λ t. first-nan (set first) local (records zone) t fields s) r
+  -- so a NaN first field clears the date
+  pub set-first-nan : (time : ℕ) → IsSome (time_value_of time) → stands fields 0 ≡ true → field_at fields 0 ≡ nan → set_outcome first local zone time fields ≡ time_reply nan
+  set-first-nan time r s e = set-field-nan time 0 r (has-first first) s (ap finite e)
+
+-- a gap and the value that it stands for, written in, give one answer
+pub set-written-in : (first : Part) (local : Bool) (zone gap full : List ℕ) → Passes (set first) local zone gap → Passes (set first) local zone full → (time : ℕ) (v : TimeValue)
+    → time_value_of time ≡ Some v → WrittenIn (set first) (start_of local (records zone) v) gap full → set_outcome first local zone time gap ≡ set_outcome first local zone time full
+set-written-in first local zone gap full p q time v e w =
+    set_value first local zone gap p time v e
+    ∙ ap time_reply (written-in (set first) local (records zone) (start_of local (records zone) v) gap full w)
+    ∙ sym (set_value first local zone full q time v e)
 
 -- ---- a NaN date: "Every setter but `set_full_year` gives NaN for NaN; that one starts from 0, with no local shift."
 nan-time : (time : ℕ) → of_bits binary64 time ≡ nan → time_value_of time ≡ Some given.Nan
@@ -94,6 +108,27 @@ unfolding start_of
 set-of-nan first local zone fields p time n other =
     set_value first local zone fields p time given.Nan (nan-time time n) ∙ ap time_reply (nan-date first local (records zone) fields other)
 
+-- ---- "a bare map of 0": no field is given, and each keeps its present value
+pub no-field-passes : (first : Part) (local : Bool) (zone : List ℕ) → (local ≡ true → Accepted zone) → Passes (set first) local zone no_field
+unfolding has_length has_other_bit ones
+no-field-passes first local zone l = record { list = l; filled = refl; known = lt-leb (2 ^ bits_of (set first)) 0 (pow_pos (bits_of (set first))) }
+
+-- the date that it starts from goes out again: in UTC it is the same instant, and locally `utc_t` of `local_time`
+pub set-no-field : (first : Part) (local : Bool) (zone : List ℕ) → (local ≡ true → Accepted zone) → (time : ℕ) (z : ℤ) → IsWhole (of_bits binary64 time) z → InRange z
+    → set_outcome first local zone time no_field ≡ time_reply (time_value (time_clip (shift_out_z local (records zone) (shift_in_z local (records zone) z))))
+set-no-field first local zone l time z w r =
+    let start = shift_in_z local (records zone) z in
+    let s = start-whole local (records zone) (λ e. (l e).rule) w r in
+    set-exact first local zone no_field (no-field-passes first local zone l) time z w r (no-field-exact first start s.1)
+    ∙ ap (λ v. time_reply (time_value v)) (no-field-value first local (records zone) start)
+
+-- of a NaN date the full year is 1970, and the date is 0
+pub set-no-year-of-nan : (local : Bool) (zone : List ℕ) → (local ≡ true → Accepted zone) → (time : ℕ) → of_bits binary64 time ≡ nan
+    → set_outcome FullYear local zone time no_field ≡ time_reply (time_value (time_clip (shift_out_z local (records zone) (pos 0))))
+set-no-year-of-nan local zone l time n =
+    set-year-of-nan local zone no_field (no-field-passes FullYear local zone l) time n (no-field-exact FullYear (pos 0) (lit≤ tt))
+    ∙ ap (λ v. time_reply (time_value v)) (no-field-value FullYear local (records zone) (pos 0))
+
 -- ---- the builder
 module _ (local : Bool) (zone fields : List ℕ) (p : Passes build local zone fields) where
   build-value : build_outcome local zone fields ≡ time_reply (value_from build local (records zone) nan fields)
@@ -112,7 +147,12 @@ module _ (local : Bool) (zone fields : List ℕ) (p : Passes build local zone fi
   build-field-nan i h s e = build-value ∙ ap time_reply (given-nan build local (records zone) nan fields i h s e)
 
   pub build-first-nan : stands fields 0 ≡ false → build_outcome local zone fields ≡ time_reply nan
-  build-first-nan s = build-value ∙ ap time_reply (first-nan build local (records zone) nan fields s)
+  build-first-nan s = build-value ∙ ap time_reply (year-nan local (records zone) nan fields s)
+
+pub build-written-in : (local : Bool) (zone gap full : List ℕ) → Passes build local zone gap → Passes build local zone full → WrittenIn build nan gap full
+    → build_outcome local zone gap ≡ build_outcome local zone full
+build-written-in local zone gap full p q w =
+    build-value local zone gap p ∙ ap time_reply (written-in build local (records zone) nan gap full w) ∙ sym (build-value local zone full q)
 
 -- ---- every answer: a refusal, or the bits of a time value
 pub data IsAnswer : Result ℕ Refusal → Type 0 where

@@ -1,6 +1,6 @@
 -- In the exact domain the builder and every setter, from a time t that is the whole number z, give what ECMA-262's own steps give in whole
 -- numbers: the fields are whole numbers, every sum and product of the new date is exact, and so is the shift out. Assumes nothing.
-use mathlib.Core.Path.{◌≡◌, refl, sym, ◌∙◌, subst}
+use mathlib.Core.Path.{◌≡◌, refl, sym, ap, ◌∙◌, subst}
 use mathlib.Core.Bool.{Bool, true, false, cond, ◌&&◌, true≢false}
 use mathlib.Core.List.{List, [], ◌∷◌}
 use Prim.Native.Nat.{ℕ, zero, suc, ◌^◌, ◌≤◌, ◌<◌}
@@ -32,6 +32,7 @@ use Rattle.zone.specs.Zone.{Record, IsZoneList}
 use Rattle.local.proofs.Whole.{utc-whole}
 use Rattle.field_record.specs.FieldRecord.{stands, field_at, field_or}
 use Rattle.new_date.specs.Calls.{Call, build, set, bits_of, present, or_zero, absent, argument, new_date, new_date_of, value_from}
+use Rattle.new_date.specs.declared.Part.{Part}
 use Rattle.new_date.specs.declared.Part.TheVariants.{Milliseconds, Seconds, Minutes, Hours, Date, Month, FullYear}
 use Rattle.new_date.specs.Standard.{absent_z, argument_z, new_date_z, value_from_z, Finite, Bounded, Exact}
 
@@ -104,32 +105,40 @@ module _ {t : Float} {z : ℤ} (w : IsWhole t z) (h : Shown z) where
   zero_field : IsField (num 0) (pos 0)
   zero_field = field-int (pos 0) (lit≤ tt)
 
-  absent-field : (call : Call) (i : ℕ) → suc i < bits_of call → IsField (get_or (absent call t) (suc i) nan) (get_or (absent_z call z) (suc i) (pos 0))
+  -- the builder's year stands for no number
+  absent-field : (call : Call) (i : ℕ) → i < bits_of call → (call ≡ build → i ≡ 0 → ⊥) → IsField (get_or (absent call t) i nan) (get_or (absent_z call z) i (pos 0))
   unfolding absent absent_z
-  absent-field build i k =
+  absent-field build zero k y = absurd (y refl refl)
+  absent-field build (suc i) k y =
       pair-at (num 0 ∷ num 1 ∷ num 0 ∷ num 0 ∷ num 0 ∷ num 0 ∷ []) (pos 0 ∷ pos 1 ∷ pos 0 ∷ pos 0 ∷ pos 0 ∷ pos 0 ∷ [])
       (zero_field, (field-int (pos 1) (lit≤ tt), (zero_field, (zero_field, (zero_field, (zero_field, tt)))))) i (omega arith)
-  absent-field (set Milliseconds) i k = absurd (omega arith)
-  absent-field (set Seconds) i k = pair-at (present Milliseconds t ∷ []) (pos (ms_from_time z) ∷ []) (ms-field, tt) i (omega arith)
-  absent-field (set Minutes) i k = pair-at (present Seconds t ∷ present Milliseconds t ∷ []) (pos (sec_from_time z) ∷ pos (ms_from_time z) ∷ []) (second-field, (ms-field, tt)) i (omega arith)
-  absent-field (set Hours) i k =
-      pair-at (present Minutes t ∷ present Seconds t ∷ present Milliseconds t ∷ []) (pos (min_from_time z) ∷ pos (sec_from_time z) ∷ pos (ms_from_time z) ∷ []) (minute-field, (second-field, (ms-field, tt))) i (omega arith)
-  absent-field (set Date) i k = absurd (omega arith)
-  absent-field (set Month) i k = pair-at (present Date t ∷ []) (date_from_time z ∷ []) (date-field, tt) i (omega arith)
-  absent-field (set FullYear) i k =
-      pair-at (present Month (or_zero t) ∷ present Date (or_zero t) ∷ []) (pos (month_from_time z) ∷ date_from_time z ∷ []) (rw whole-start month-field, (rw whole-start date-field, tt)) i (omega arith)
+  absent-field (set first) i k y = pair-at (absent (set first) t) (absent_z (set first) z) (kept first) i (rw (counted first) k)
+    where
+      kept : (first : Part) → Pairs (absent (set first) t) (absent_z (set first) z)
+      kept Milliseconds = (ms-field, tt)
+      kept Seconds = (second-field, (ms-field, tt))
+      kept Minutes = (minute-field, (second-field, (ms-field, tt)))
+      kept Hours = (hour-field, (minute-field, (second-field, (ms-field, tt))))
+      kept Date = (date-field, tt)
+      kept Month = (month-field, (date-field, tt))
+      kept FullYear = rw whole-start (year-field, (month-field, (date-field, tt)))
+
+      counted : (first : Part) → length (absent (set first) t) ≡ bits_of (set first)
+      counted Milliseconds = refl
+      counted Seconds = refl
+      counted Minutes = refl
+      counted Hours = refl
+      counted Date = refl
+      counted Month = refl
+      counted FullYear = refl
 
   argument-field : (call : Call) (fields : List ℕ) → Finite call fields → (i : ℕ) → i < bits_of call → IsField (argument call t fields i) (argument_z call z fields i)
   unfolding field_or
   argument-field call fields n i k = go (stands fields i) refl
     where
-      none : (i : ℕ) → i < bits_of call → stands fields i ≡ false → IsField (get_or (absent call t) i nan) (get_or (absent_z call z) i (pos 0))
-      none zero k e = absurd (true≢false (sym n.first ∙ e))
-      none (suc i) k e = absent-field call i k
-
       go : (b : Bool) → stands fields i ≡ b → IsField (cond b (field_at fields i) (get_or (absent call t) i nan)) (cond b (trunc_z (field_at fields i)) (get_or (absent_z call z) i (pos 0)))
       go true e = field (field_at fields i) (field-at-fits fields i) (n.each i k e)
-      go false e = none i k e
+      go false e = absent-field call i k (λ c o. true≢false (sym (n.year c) ∙ ap (stands fields) (sym o) ∙ e))
 
   -- ---- the new date
   on-clock : {hour min sec ms : Float} {a b c d : ℤ} → IsField hour a → IsField min b → IsField sec c → IsField ms d → ExactTime a b c d

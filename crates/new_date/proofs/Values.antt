@@ -5,7 +5,6 @@ use mathlib.Core.List.{List}
 use Prim.Native.Nat.{ℕ, zero, suc, ◌<◌}
 use native.Mathlib.Omega.{arith}
 use lib.Dec.{T}
-use lib.ListN.{get_or}
 use lib.Ieee.{Float, nan, inf, fin, binary64, fits, add, sub, mul, div, rem, le, lt, of_int, is_nan}
 use lib.Ieee.Fits.{cond-fits, nan-fits, add-fits, sub-fits}
 use lib.Ieee.Scale.{finite}
@@ -112,28 +111,24 @@ unfolding value_from new_date_of
 argument-nan call local list t fields i h e =
     ap (λ (x : Float). time_clip_f (shift_out local list x)) (new-date-nan call t (argument call t fields) i h e) ∙ ap time_clip_f (out-nan local list) ∙ clip-nan
 
--- of a given field, and of the first where it is absent
 pub given-nan : (call : Call) (local : Bool) (list : List Record) (t : Float) (fields : List ℕ) (i : ℕ) → i < bits_of call → stands fields i ≡ true → finite (field_at fields i) ≡ false
     → value_from call local list t fields ≡ nan
 unfolding field_or
 given-nan call local list t fields i h s e = argument-nan call local list t fields i h (rw s e)
 
-first_absent : (call : Call) (t : Float) → (0 < bits_of call) × (get_or (absent call t) 0 nan ≡ nan)
-unfolding absent
-first_absent build t = (omega arith, refl)
-first_absent (set Milliseconds) t = (omega arith, refl)
-first_absent (set Seconds) t = (omega arith, refl)
-first_absent (set Minutes) t = (omega arith, refl)
-first_absent (set Hours) t = (omega arith, refl)
-first_absent (set Date) t = (omega arith, refl)
-first_absent (set Month) t = (omega arith, refl)
-first_absent (set FullYear) t = (omega arith, refl)
+pub has-first : (first : Part) → 0 < bits_of (set first)
+has-first Milliseconds = omega arith
+has-first Seconds = omega arith
+has-first Minutes = omega arith
+has-first Hours = omega arith
+has-first Date = omega arith
+has-first Month = omega arith
+has-first FullYear = omega arith
 
-pub first-nan : (call : Call) (local : Bool) (list : List Record) (t : Float) (fields : List ℕ) → stands fields 0 ≡ false → value_from call local list t fields ≡ nan
-unfolding field_or
-first-nan call local list t fields s =
-    let f = first_absent call t in
-    argument-nan call local list t fields 0 f.0 (rw s (ap finite f.1))
+-- and an absent year of the builder is NaN
+pub year-nan : (local : Bool) (list : List Record) (t : Float) (fields : List ℕ) → stands fields 0 ≡ false → value_from build local list t fields ≡ nan
+unfolding field_or absent
+year-nan local list t fields s = argument-nan build local list t fields 0 (omega arith) (rw s refl)
 
 -- ---- a NaN date: "Every setter but `set_full_year` gives NaN for NaN". Its day and its time within the day are NaN.
 day-of-nan : finite (day_f nan) ≡ false

@@ -1,14 +1,14 @@
 -- The field builder and the seven setters of builtins/date/mod.rs on f64: what an absent field stands for, and the original's operations in
 -- its order, for every record. What they are in the exact domain, the standard's own steps, is in specs/Standard.antt. Definitions only.
 -- Assumes nothing.
-use Rattle.std.specs.Prelude.{Bool, cond, List, [], ◌∷◌, ℕ, get_or, Float}
+use Rattle.std.specs.Prelude.{◌≡◌, Bool, true, cond, List, [], ◌∷◌, ℕ, ◌<◌, get_or, Float}
 use Rattle.std.specs.Float.{nan, binary64}
 use Rattle.std.specs.Float.Ieee.{of_int, is_nan}
 use Rattle.zone.specs.Zone.{Record}
 use Rattle.calendar.specs.Calendar.{num, day_f, time_within_day_f, year_from_time_f, month_from_time_f, date_from_time_f, hour_from_time_f, min_from_time_f, sec_from_time_f, ms_from_time_f}
 use Rattle.make.specs.Make.{make_time_f, make_day_f, make_date_f, make_full_year_f, time_clip_f}
 use Rattle.local.specs.Local.{local_time_f, utc_f}
-use Rattle.field_record.specs.FieldRecord.{field_or}
+use Rattle.field_record.specs.FieldRecord.{stands, field_at, field_or}
 use Rattle.new_date.specs.declared.Part.{Part}
 use Rattle.new_date.specs.declared.Part.TheVariants.{Milliseconds, Seconds, Minutes, Hours, Date, Month, FullYear}
 
@@ -44,20 +44,24 @@ unfoldable pub or_zero : Float → Float
 or_zero t = cond (is_nan t) (num 0) t
 
 -- What an absent field stands for, by call and bit, at the time t that a setter starts from (the builder has none). "Absent: in the builder
--- month 0, date 1, others 0, but year NaN; in a setter the first is NaN, as in the Rust, and any other keeps its present value."
+-- month 0, date 1, others 0, but year NaN; in a setter every absent field keeps its present value, the first too, which parts from the Rust."
 unfoldable pub absent : Call → Float → List Float
 absent build t = nan ∷ num 0 ∷ num 1 ∷ num 0 ∷ num 0 ∷ num 0 ∷ num 0 ∷ []
-absent (set Milliseconds) t = nan ∷ []
-absent (set Seconds) t = nan ∷ present Milliseconds t ∷ []
-absent (set Minutes) t = nan ∷ present Seconds t ∷ present Milliseconds t ∷ []
-absent (set Hours) t = nan ∷ present Minutes t ∷ present Seconds t ∷ present Milliseconds t ∷ []
-absent (set Date) t = nan ∷ []
-absent (set Month) t = nan ∷ present Date t ∷ []
-absent (set FullYear) t = nan ∷ present Month (or_zero t) ∷ present Date (or_zero t) ∷ []
+absent (set Milliseconds) t = present Milliseconds t ∷ []
+absent (set Seconds) t = present Seconds t ∷ present Milliseconds t ∷ []
+absent (set Minutes) t = present Minutes t ∷ present Seconds t ∷ present Milliseconds t ∷ []
+absent (set Hours) t = present Hours t ∷ present Minutes t ∷ present Seconds t ∷ present Milliseconds t ∷ []
+absent (set Date) t = present Date t ∷ []
+absent (set Month) t = present Month t ∷ present Date t ∷ []
+absent (set FullYear) t = present FullYear (or_zero t) ∷ present Month (or_zero t) ∷ present Date (or_zero t) ∷ []
 
 -- the call's argument of a bit
 abbrev pub argument : Call → Float → List ℕ → ℕ → Float
 argument call t fields bit = field_or fields bit (get_or (absent call t) bit nan)
+
+-- "A gap … equals the call with the value just said written in": full has every field of the call, and each is the argument of gap
+abbrev pub WrittenIn : Call → Float → List ℕ → List ℕ → Type 0
+WrittenIn call t gap full = (bit : ℕ) → bit < bits_of call → (stands full bit ≡ true) × (field_at full bit ≡ argument call t gap bit)
 
 -- ---- the new date, from the time t and the arguments a: each line is the original's, in date/mod.rs
 unfoldable pub new_date : Call → Float → (ℕ → Float) → Float

@@ -13,16 +13,16 @@ use Rattle.field_record.specs.FieldRecord.{stands, has_length, has_other_bit, fi
 use Rattle.new_date.specs.Calls.{Call, build, set, bits_of}
 use Rattle.new_date.specs.declared.Part.TheVariants.{Milliseconds, Seconds, Minutes, Hours, Date, Month, FullYear}
 
--- What an absent field stands for. Bit 0 has no such number: it stands for NaN, and the law below asks for it to be given.
+-- What an absent field stands for. The builder's year has no such number: it stands for NaN, and the law below asks for it to be given.
 unfoldable pub absent_z : Call → ℤ → List ℤ
 absent_z build t = pos 0 ∷ pos 0 ∷ pos 1 ∷ pos 0 ∷ pos 0 ∷ pos 0 ∷ pos 0 ∷ []
-absent_z (set Milliseconds) t = pos 0 ∷ []
-absent_z (set Seconds) t = pos 0 ∷ pos (ms_from_time t) ∷ []
-absent_z (set Minutes) t = pos 0 ∷ pos (sec_from_time t) ∷ pos (ms_from_time t) ∷ []
-absent_z (set Hours) t = pos 0 ∷ pos (min_from_time t) ∷ pos (sec_from_time t) ∷ pos (ms_from_time t) ∷ []
-absent_z (set Date) t = pos 0 ∷ []
-absent_z (set Month) t = pos 0 ∷ date_from_time t ∷ []
-absent_z (set FullYear) t = pos 0 ∷ pos (month_from_time t) ∷ date_from_time t ∷ []
+absent_z (set Milliseconds) t = pos (ms_from_time t) ∷ []
+absent_z (set Seconds) t = pos (sec_from_time t) ∷ pos (ms_from_time t) ∷ []
+absent_z (set Minutes) t = pos (min_from_time t) ∷ pos (sec_from_time t) ∷ pos (ms_from_time t) ∷ []
+absent_z (set Hours) t = pos (hour_from_time t) ∷ pos (min_from_time t) ∷ pos (sec_from_time t) ∷ pos (ms_from_time t) ∷ []
+absent_z (set Date) t = date_from_time t ∷ []
+absent_z (set Month) t = pos (month_from_time t) ∷ date_from_time t ∷ []
+absent_z (set FullYear) t = year_from_time t ∷ pos (month_from_time t) ∷ date_from_time t ∷ []
 
 -- the call's argument of a bit: a given field without its fraction
 abbrev pub argument_z : Call → ℤ → List ℕ → ℕ → ℤ
@@ -50,9 +50,9 @@ shift_out_z local list t = cond local (utc_time list t) t
 unfoldable pub value_from_z : Call → Bool → List Record → ℤ → List ℕ → Option ℤ
 value_from_z call local list t fields = time_clip (shift_out_z local list (new_date_z call t (argument_z call t fields)))
 
--- ---- "The exact domain: fields finite and truncated": bit 0 is given, and every given field is finite
+-- ---- "The exact domain: fields finite and truncated": the builder's year is given, and every given field is finite
 pub record Finite (call : Call) (fields : List ℕ) : Type 0 where
-  pub first : stands fields 0 ≡ true
+  pub year : call ≡ build → stands fields 0 ≡ true
   pub each : (bit : ℕ) → bit < bits_of call → stands fields bit ≡ true → T (finite (field_at fields bit))
 
 -- and the call's arguments a within its bounds; the builder's year is bounded as MakeFullYear gives it
@@ -75,3 +75,7 @@ pub record Passes (call : Call) (local : Bool) (zone fields : List ℕ) : Type 0
   pub list : local ≡ true → Accepted zone
   pub filled : has_length fields ≡ true
   pub known : has_other_bit (bits_of call) fields ≡ false
+
+-- "a bare map of 0": a record without fields
+abbrev pub no_field : List ℕ
+no_field = 0 ∷ []

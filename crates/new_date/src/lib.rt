@@ -1,7 +1,7 @@
 // The new date of the builder and of each setter, in the original's steps (builtins/date/mod.rs), and the bits of its value. A setter takes the
 // time t, which is local where the call is, and the record of its arguments. Each contract is one line of specs/Calls.antt, for every f64 and every
 // record; that it is the standard's own step in the exact domain is in proofs/Exact.antt.
-#![tactic(auto, using(field_record::proofs::Laws::given_or, crate::proofs::Literals::zero, crate::proofs::Literals::one), unfolding(crate::specs::Calls::new_date_of, crate::specs::Calls::new_date, crate::specs::Calls::absent))]
+#![tactic(auto, using(field_record::proofs::Laws::given_or, crate::proofs::Literals::zero, crate::proofs::Literals::one, crate::proofs::Literals::not_a_number), unfolding(crate::specs::Calls::new_date_of, crate::specs::Calls::new_date, crate::specs::Calls::absent))]
 
 ghost use Rattle.std.specs.Prelude.{◌≡◌, is_some};
 ghost use Rattle.std.specs.Float.{nan, binary64};
@@ -24,15 +24,7 @@ pub enum Part {
     FullYear,
 }
 
-// ---- the arguments
-
-// The first: where it is absent, it is NaN.
-#[tactic(auto, using(crate::proofs::Literals::not_a_number))]
-fn first_of(arguments: &mut Arguments) -> f64
-    ensures { Reads arguments.old arguments.new nan result }
-{
-    arguments.next().unwrap_or(f64::NAN)
-}
+// ---- the arguments of a setter
 
 // A present part of t.
 fn present(part: Part, t: f64) -> f64
@@ -49,7 +41,7 @@ fn present(part: Part, t: f64) -> f64
     }
 }
 
-// Another of a setter: where it is absent, it is asked of t, and else not.
+// The next one: where it is absent, its part is asked of t, and else not.
 #[tactic(auto, using(crate::proofs::Literals::or_else))]
 fn next_of(arguments: &mut Arguments, part: Part, t: f64) -> f64
     ensures { Reads arguments.old arguments.new (present part t) result }
@@ -63,7 +55,7 @@ fn milliseconds(t: f64, fields: FieldRecord) -> f64
     ensures { result ≡ new_date_of (set Part.Milliseconds) t fields.entry.bytes.now }
 {
     let mut arguments = fields.arguments();
-    let ms = first_of(&mut arguments);
+    let ms = next_of(&mut arguments, Part::Milliseconds, t);
     // Let time be MakeTime(HourFromTime(t), MinFromTime(t), SecFromTime(t), ms).
     let time = make::make_time(
         present(Part::Hours, t),
@@ -78,7 +70,7 @@ fn seconds(t: f64, fields: FieldRecord) -> f64
     ensures { result ≡ new_date_of (set Part.Seconds) t fields.entry.bytes.now }
 {
     let mut arguments = fields.arguments();
-    let s = first_of(&mut arguments);
+    let s = next_of(&mut arguments, Part::Seconds, t);
     let milli = next_of(&mut arguments, Part::Milliseconds, t);
     // Let date be MakeDate(Day(t), MakeTime(HourFromTime(t), MinFromTime(t), s, milli)).
     let time = make::make_time(present(Part::Hours, t), present(Part::Minutes, t), s, milli);
@@ -89,7 +81,7 @@ fn minutes(t: f64, fields: FieldRecord) -> f64
     ensures { result ≡ new_date_of (set Part.Minutes) t fields.entry.bytes.now }
 {
     let mut arguments = fields.arguments();
-    let m = first_of(&mut arguments);
+    let m = next_of(&mut arguments, Part::Minutes, t);
     let s = next_of(&mut arguments, Part::Seconds, t);
     let milli = next_of(&mut arguments, Part::Milliseconds, t);
     // Let date be MakeDate(Day(t), MakeTime(HourFromTime(t), m, s, milli)).
@@ -101,7 +93,7 @@ fn hours(t: f64, fields: FieldRecord) -> f64
     ensures { result ≡ new_date_of (set Part.Hours) t fields.entry.bytes.now }
 {
     let mut arguments = fields.arguments();
-    let h = first_of(&mut arguments);
+    let h = next_of(&mut arguments, Part::Hours, t);
     let m = next_of(&mut arguments, Part::Minutes, t);
     let s = next_of(&mut arguments, Part::Seconds, t);
     let milli = next_of(&mut arguments, Part::Milliseconds, t);
@@ -116,7 +108,7 @@ fn date(t: f64, fields: FieldRecord) -> f64
     ensures { result ≡ new_date_of (set Part.Date) t fields.entry.bytes.now }
 {
     let mut arguments = fields.arguments();
-    let dt = first_of(&mut arguments);
+    let dt = next_of(&mut arguments, Part::Date, t);
     // Let newDate be MakeDate(MakeDay(YearFromTime(t), MonthFromTime(t), dt), TimeWithinDay(t)).
     let day = make::make_day(present(Part::FullYear, t), present(Part::Month, t), dt);
     make::make_date(day, calendar::time_within_day(t))
@@ -126,7 +118,7 @@ fn month(t: f64, fields: FieldRecord) -> f64
     ensures { result ≡ new_date_of (set Part.Month) t fields.entry.bytes.now }
 {
     let mut arguments = fields.arguments();
-    let m = first_of(&mut arguments);
+    let m = next_of(&mut arguments, Part::Month, t);
     let dt = next_of(&mut arguments, Part::Date, t);
     // Let newDate be MakeDate(MakeDay(YearFromTime(t), m, dt), TimeWithinDay(t)).
     let day = make::make_day(present(Part::FullYear, t), m, dt);
@@ -146,7 +138,7 @@ fn full_year(date: f64, fields: FieldRecord) -> f64
 {
     let t = or_zero(date);
     let mut arguments = fields.arguments();
-    let y = first_of(&mut arguments);
+    let y = next_of(&mut arguments, Part::FullYear, t);
     let m = next_of(&mut arguments, Part::Month, t);
     let dt = next_of(&mut arguments, Part::Date, t);
     // Let newDate be MakeDate(MakeDay(y, m, dt), TimeWithinDay(t)).
@@ -172,12 +164,12 @@ pub fn set(first: Part, t: f64, fields: FieldRecord) -> f64
 
 // ---- the builder
 
-// Date.UTC, and the constructor of many fields
+// Date.UTC, and the constructor of many fields. An absent year is NaN.
 pub fn built(fields: FieldRecord) -> f64
     ensures { result ≡ new_date_of build nan fields.entry.bytes.now }
 {
     let mut arguments = fields.arguments();
-    let y = first_of(&mut arguments);
+    let y = arguments.next().unwrap_or(f64::NAN);
     let m = arguments.next().unwrap_or(0.0);
     let dt = arguments.next().unwrap_or(1.0);
     let h = arguments.next().unwrap_or(0.0);
