@@ -108,9 +108,11 @@ zovattha_answer zovattha_build_utc(const uint8_t *record, size_t record_len);
 zovattha_answer zovattha_build_local(const uint8_t *zone, size_t zone_len, const uint8_t *record, size_t record_len);
 
 /*
- * Setters: bit 0 is the first argument and so on. An absent first argument is NaN; any other keeps its present value. NaN gives NaN, but
- * full_year starts from 0. Refusals 2, 3, 4; the local ones 1, 2, 3, 4. These go back from local time to UTC by the rule above, so that
- * near a change of offset a time can move by an hour though its fields are set to what they are.
+ * Setters: bit 0 is the first argument and so on. Every absent field keeps its present value, the first too: an hours record with the minute
+ * alone leaves the hour as it is, and a bare map of 0 sets nothing. A date is cleared by its first field: bit 0 and a NaN, in any setter; so
+ * is a script's call without arguments, which is NaN in ECMA-262 and in the original, handed on. NaN gives NaN, but full_year starts from 0,
+ * so that there an absent year is 1970. Refusals 2, 3, 4; the local ones 1, 2, 3, 4. These go back from local time to UTC by the rule above,
+ * so that near a change of offset a time can move by an hour though its fields are set to what they are, or none is given.
  */
 zovattha_answer zovattha_set_utc_milliseconds(uint64_t time, const uint8_t *record, size_t record_len); /* ms */
 zovattha_answer zovattha_set_utc_seconds(uint64_t time, const uint8_t *record, size_t record_len); /* sec, ms */

@@ -1,5 +1,6 @@
 /*
- * Dates through the header alone: read a start, move it to another hour, write it in local time and in UTC, and rewrite a text.
+ * Dates through the header alone: read a start, move it to another hour, set its minute alone, clear it, write it in local time and in UTC,
+ * and rewrite a text.
  *
  *   tools/archives
  *   cc -Iinclude examples/c/hello_dates.c target/staticlib/libzovattha.a
@@ -34,8 +35,30 @@ static int refused(const char *call, zovattha_answer answer) {
 
 static void print_text(const uint8_t *text, zovattha_answer answer) { printf("%.*s\n", (int)answer.length, (const char *)text); }
 
+/* The local time of an instant, as a line. */
+static int print_local(const uint8_t *zone, size_t zone_len, uint64_t time) {
+    uint8_t out[36]; /* enough for every text */
+    zovattha_answer text = zovattha_to_string(zone, zone_len, time, out, sizeof out);
+    if (refused("local text", text)) return 1;
+    print_text(out, text);
+    return 0;
+}
+
 static zovattha_answer read_text(const uint8_t *zone, size_t zone_len, const char *text) {
     return zovattha_read(zone, zone_len, (const uint8_t *)text, strlen(text));
+}
+
+/* A field that is not given keeps its value, the first too: the minute alone, bit 1. A NaN in the first one clears the date. */
+static int set_one_field(const uint8_t *zone, size_t zone_len, uint64_t time) {
+    uint8_t minute[1 + 8] = {2};
+    put(minute + 1, bits(45), 8);
+    zovattha_answer later = zovattha_set_hours(zone, zone_len, time, minute, sizeof minute);
+    if (refused("set the minute", later) || print_local(zone, zone_len, later.value)) return 1;
+
+    uint8_t none[1 + 8] = {1};
+    put(none + 1, ZOVATTHA_NAN, 8);
+    zovattha_answer cleared = zovattha_set_hours(zone, zone_len, time, none, sizeof none);
+    return refused("clear", cleared) || print_local(zone, zone_len, cleared.value);
 }
 
 int main(void) {
@@ -56,11 +79,11 @@ int main(void) {
     zovattha_answer moved = zovattha_set_hours(zone, sizeof zone, start.value, record, sizeof record);
     if (refused("set hours", moved)) return 1;
 
-    uint8_t out[36]; /* enough for every text */
-    zovattha_answer text = zovattha_to_string(zone, sizeof zone, moved.value, out, sizeof out);
-    if (refused("local text", text)) return 1;
-    print_text(out, text);
-    text = zovattha_to_iso_string(moved.value, out, sizeof out);
+    if (print_local(zone, sizeof zone, moved.value)) return 1;
+    if (set_one_field(zone, sizeof zone, moved.value)) return 1;
+
+    uint8_t out[36];
+    zovattha_answer text = zovattha_to_iso_string(moved.value, out, sizeof out);
     if (refused("ISO text", text)) return 1;
     print_text(out, text);
 

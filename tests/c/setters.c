@@ -65,6 +65,14 @@ static const struct row ROWS[] = {
     {"year 99", FULL_YEAR, 1, {99}, -59037823503211, -59037909903211},
     {"year, all", FULL_YEAR, 7, {-1, 0, 31}, -62196089103211, -62196175503211},
     {"year, no month", FULL_YEAR, 5, {2023, 1}, 1675283696789, 1677616496789},
+    {"millisecond, no second", SECONDS, 2, {5}, 1709238896005, 1709238896005},
+    {"second, no minute", MINUTES, 2, {5}, 1709238845789, 1709238845789},
+    {"millisecond, no minute", MINUTES, 4, {5}, 1709238896005, 1709238896005},
+    {"minute, no hour", HOURS, 2, {5}, 1709237156789, 1709238956789},
+    {"second and millisecond, no hour", HOURS, 12, {5, 7}, 1709238845007, 1709238845007},
+    {"date, no month", MONTH, 2, {31}, 1709411696789, 1711830896789},
+    {"month, no year", FULL_YEAR, 2, {13}, 1740861296789, 1738355696789},
+    {"date, no year", FULL_YEAR, 4, {31}, 1709411696789, 1711830896789},
     {"NaN", SECONDS, 3, {1, NAN_TIME}, NAN_TIME, NAN_TIME},
     {"infinite", HOURS, 1, {INFINITE}, NAN_TIME, NAN_TIME},
     {"beyond the range", FULL_YEAR, 1, {275761}, NAN_TIME, NAN_TIME},
@@ -92,7 +100,7 @@ static void check_before_1970(void) {
     }
 }
 
-/* NaN, -0, a first argument that is absent. */
+/* NaN and -0. */
 static void check_special(void) {
     LIST({0, 7200});
     for (int i = 0; i < SETTERS_COUNT; i++) {
@@ -100,14 +108,6 @@ static void check_special(void) {
         CHECK_FOR(SETTERS[i].name, gave(utc(i, NAN_TIME), i == FULL_YEAR ? 1704067200000 : NAN_TIME));
         CHECK_FOR(SETTERS[i].name, gave(local(i, NAN_TIME), i == FULL_YEAR ? 1704067200000 - 7200000 : NAN_TIME));
         CHECK_FOR(SETTERS[i].name, utc(i, -0.0).value == utc(i, 0).value);
-        RECORD(0, 0);
-        CHECK_FOR(SETTERS[i].name, gave(utc(i, BASE), NAN_TIME));
-        CHECK_FOR(SETTERS[i].name, gave(local(i, BASE), NAN_TIME));
-        if (SETTERS[i].arguments > 1) {
-            RECORD(2, 1);
-            CHECK_FOR(SETTERS[i].name, gave(utc(i, BASE), NAN_TIME));
-            CHECK_FOR(SETTERS[i].name, gave(local(i, BASE), NAN_TIME));
-        }
     }
     RECORD(1, 0);
     CHECK(gave(utc(MILLISECONDS, -0.0), 0));
@@ -117,6 +117,38 @@ static void check_special(void) {
     CHECK(gave(utc(FULL_YEAR, NAN_TIME), 1709164800000));
     RECORD(1, 1);
     CHECK(gave(utc(MONTH, 1706659200000), 1709337600000));
+}
+
+/* A bare map of 0: every field keeps its value. Of a NaN date the full year is 1970. */
+static void check_no_field(void) {
+    RECORD(0, 0);
+    for (int i = 0; i < SETTERS_COUNT; i++) {
+        LIST({0, 7200});
+        for (int t = 0; t < 5; t++) {
+            double time = (double[]){BASE, -1, -0.0, LAST, -LAST}[t];
+            CHECK_FOR(SETTERS[i].name, gave(utc(i, time), time + 0.0));
+            CHECK_FOR(SETTERS[i].name, gave(local(i, time), time + 0.0));
+        }
+        CHECK_FOR(SETTERS[i].name, gave(utc(i, NAN_TIME), i == FULL_YEAR ? 0 : NAN_TIME));
+        CHECK_FOR(SETTERS[i].name, gave(local(i, NAN_TIME), i == FULL_YEAR ? -7200000 : NAN_TIME));
+        /* 02:00 local comes twice, and `utc_t` takes the later one. */
+        LIST({0, 7200}, {3600, 3600});
+        CHECK_FOR(SETTERS[i].name, gave(local(i, 0), 3600000));
+    }
+}
+
+/* A NaN in the first field clears a date, whatever the other fields are. */
+static void check_cleared(void) {
+    LIST({0, 7200});
+    for (int i = 0; i < SETTERS_COUNT; i++) {
+        RECORD(1, NAN_TIME);
+        CHECK_FOR(SETTERS[i].name, gave(utc(i, BASE), NAN_TIME) && gave(local(i, BASE), NAN_TIME));
+        CHECK_FOR(SETTERS[i].name, gave(utc(i, NAN_TIME), NAN_TIME) && gave(local(i, NAN_TIME), NAN_TIME));
+        if (SETTERS[i].arguments > 1) {
+            RECORD(3, NAN_TIME, 1);
+            CHECK_FOR(SETTERS[i].name, gave(utc(i, BASE), NAN_TIME) && gave(local(i, BASE), NAN_TIME));
+        }
+    }
 }
 
 /* The range's ends; locally the time may leave it on the way. */
@@ -194,6 +226,8 @@ int main(void) {
     check_values();
     check_before_1970();
     check_special();
+    check_no_field();
+    check_cleared();
     check_range();
     check_changes();
     for (int i = 0; i < SETTERS_COUNT; i++) {

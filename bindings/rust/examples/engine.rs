@@ -33,15 +33,23 @@ impl Realm {
     }
 
     /// `date.setHours(hour, minute, second, ms)`, with as many arguments as the script gives. Called
-    /// without any, it makes the date invalid, as the standard has it.
+    /// without any, it makes the date invalid, as the standard has it: the hour is then given as NaN,
+    /// since a field that is not given keeps its value.
     fn set_hours(&self, date: &mut Date, arguments: &[f64]) -> f64 {
         let set: [fn(Hours, f64) -> Hours; 4] =
             [Hours::hour, Hours::minute, Hours::second, Hours::millisecond];
+        let arguments = if arguments.is_empty() { &[f64::NAN] } else { arguments };
         let given = set.iter().zip(arguments);
         let hours = given.fold(Hours::new(), |hours, (set, argument)| set(hours, *argument));
         let value = zovattha::set_hours(&self.zone, date.value, &hours);
         date.value = value.expect("a date's value is a time value");
         date.value
+    }
+
+    /// A cue record of the house, not a script: its minute alone, and the hour remains.
+    fn set_minute_of_cue(&self, date: &mut Date, minute: f64) {
+        let value = zovattha::set_hours(&self.zone, date.value, &Hours::new().minute(minute));
+        date.value = value.expect("a date's value is a time value");
     }
 
     /// `date.toString()`.
@@ -69,6 +77,9 @@ fn main() {
     println!("{} {}", realm.to_string(&cue), Realm::to_iso_string(&cue).unwrap());
     assert_eq!(realm.to_string(&cue), "Sat Jun 01 2024 21:30:00 GMT+0200");
     assert_eq!(Realm::to_iso_string(&cue).unwrap(), "2024-06-01T19:30:00.000Z");
+
+    realm.set_minute_of_cue(&mut cue, 45.0);
+    assert_eq!(realm.to_string(&cue), "Sat Jun 01 2024 21:45:00 GMT+0200");
 
     let mut missed = realm.parse("tonight");
     assert!(realm.set_hours(&mut missed, &[21.0]).is_nan());

@@ -204,6 +204,7 @@ macro_rules! setters {
     ($($(#[$example:meta])* $fields:ident: $utc:ident $c_utc:ident, $local:ident $c_local:ident, $what:literal;)*) => {
         $(
         #[doc = concat!("The time with its UTC ", $what, " set; NaN where that is outside the range.")]
+        /// A field that is not given keeps its present value; a first field that is NaN clears the date.
         ///
         /// # Errors
         /// [`Refusal::TimeValue`].
@@ -216,6 +217,7 @@ macro_rules! setters {
         }
 
         #[doc = concat!("The time with its local ", $what, " set; NaN where that is outside the range.")]
+        /// A field that is not given keeps its present value; a first field that is NaN clears the date.
         /// It can be an hour off
         /// [near a change of offset](crate#local-times-near-a-change-of-offset).
         ///
@@ -246,6 +248,11 @@ setters! {
     /// let house = ZoneList::from_records(&[ZoneRecord { second: 0, offset: 3600 }])?;
     /// let start = set_hours(&house, 1709208000000.0, &Hours::new().hour(20).minute(15))?;
     /// assert_eq!(to_iso_string(start)?, "2024-02-29T19:15:00.000Z");
+    /// // The hour is not given, and remains.
+    /// let later = set_hours(&house, start, &Hours::new().minute(45))?;
+    /// assert_eq!(to_iso_string(later)?, "2024-02-29T19:45:00.000Z");
+    /// // A NaN for the first field clears the date.
+    /// assert!(set_hours(&house, start, &Hours::new().hour(f64::NAN))?.is_nan());
     /// # Ok::<(), zovattha::Refusal>(())
     /// ```
     ///

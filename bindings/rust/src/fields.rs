@@ -1,8 +1,9 @@
 //! Field records by name: which fields a call is given, and what they are.
 //!
 //! A field that is not given stands for document 01's default: in the builder month 0 (January),
-//! date 1 and otherwise 0, but a year that is not given makes the answer NaN; in a setter the first
-//! field that is not given is NaN, and any other keeps its present value.
+//! date 1 and otherwise 0, but a year that is not given makes the answer NaN; in a setter every field
+//! that is not given keeps its present value, the first too. A setter's first field that is given as
+//! NaN clears the date.
 
 /// Where the fields of a record begin: after one byte of bit map.
 const MAP_BYTES: usize = 1;
@@ -44,7 +45,7 @@ macro_rules! fields {
         pub struct $name { $($field: Option<f64>),* }
 
         impl $name {
-            /// No field given.
+            /// No field given: each stands for what the module's documentation says.
             pub const fn new() -> Self {
                 Self { $($field: None),* }
             }
@@ -83,7 +84,7 @@ fields! {
     /// What [`set_month`](crate::set_month) is given: a month, January 0, and a day of it.
     Month { month, date }
     /// What [`set_full_year`](crate::set_full_year) is given. The year stands for
-    /// itself, and a time that is NaN counts as 0.
+    /// itself. A time that is NaN counts as 0, so that there a year that is not given is 1970.
     FullYear { year, month, date }
 }
 

@@ -61,7 +61,11 @@ fn set_and_built() {
     assert_eq!(set_utc_hours(0.0, &hours), Ok(72_900_000.0));
     assert_eq!(set_hours(&list(&[(0, 3600)]), 0.0, &hours), Ok(69_300_000.0));
     assert_eq!(set_utc_hours(0.5, &hours), Err(Refusal::TimeValue));
-    assert!(set_utc_hours(0.0, &Hours::new().minute(1)).unwrap().is_nan());
+    assert_eq!(set_utc_hours(72_900_000.0, &Hours::new().minute(1)), Ok(72_060_000.0));
+    assert_eq!(set_utc_hours(72_900_000.0, &Hours::new()), Ok(72_900_000.0));
+    assert_eq!(set_hours(&list(&[(0, 7200), (3600, 3600)]), 0.0, &Hours::new()), Ok(3_600_000.0));
+    assert_eq!(set_utc_full_year(f64::NAN, &FullYear::new()), Ok(0.0));
+    assert!(set_utc_hours(0.0, &Hours::new().hour(f64::NAN)).unwrap().is_nan());
     assert_eq!(build_utc(&Fields::new().year(70)), 0.0);
     assert_eq!(build_local(&list(&[(0, 3600)]), &Fields::new().year(1970).hour(1)), 0.0);
     assert!(build_utc(&Fields::new()).is_nan());
