@@ -1,20 +1,24 @@
 -- Demand 2, in the customer's words and order, of the definitions that the contracts cite: the calendar's functions on f64, `day_f` and its
 -- kin (crates/calendar/specs/Calendar.antt), and the outcomes `build_outcome` (zovattha_build_utc, zovattha_build_local), `set_outcome` (the 14
 -- setters), `read_outcome` (zovattha_read), `iso_outcome`, `utc_outcome`, `local_outcome` (zovattha_to_iso_string, zovattha_to_utc_string,
--- zovattha_to_string). Its terms; those of its own are in crates/demands/specs/Terms.antt, each beside its words:
---   InRange t, Shown t        a whole millisecond "of the range"; of the range "and its local shifts"     crates/ecma262/specs/Date, Domain
---   IsWhole x z               the f64 x has the value z, a whole number (-0 has 0)                       crates/float/specs/Whole
---   CalendarAt t z            each function of a time "is ECMA-262's in whole numbers"                   crates/demands/specs/Terms
---   Passes call …             none of the rows 1, 3 and 4 applies                                       crates/new_date/specs/Standard
---   Exact call t fields       a field record "in the exact domain"                                      crates/new_date/specs/Standard
---   argument_z call t fields   the call's arguments: the fields truncated, or what absent ones stand for  crates/new_date/specs/Standard
---   time_value, time_reply      a clipped time as f64, NaN for none; its bits as an answer                 crates/make/specs/Make, fields/specs/Outcome
---   Accepted zone             an accepted zone list                                                     crates/zone/specs/Zone
---   Writes form text          the text is "the Date Time String Format as 01 sets it", by its form      crates/ecma262/specs/Format
---   Denotes zone text t       t is "the instant that 01 says the text denotes"                          crates/reader/specs/Denotes
---   AcceptedText zone text    list and text are accepted: the text denotes an instant of the range      crates/reader/specs/Denotes
---   iso_text, utc_text …        the standard's texts                                                      crates/ecma262/specs/Texts
---   written value text out    the text is written, or the output is shorter than it (row 11)            crates/writer/specs/Outcome
+-- zovattha_to_string). Its terms, with their files below crates/; those of its own stand in demands/specs/Terms, each beside its words:
+--   InRange t, Shown t         a whole millisecond "of the range"; of the range "and its local shifts"    ecma262/specs/Date, Domain
+--   IsWhole x z                the f64 x has the value z, a whole number (-0 has 0)                       float/specs/Whole
+--   CalendarAt t z             each function of a time "is ECMA-262's in whole numbers"                   demands/specs/Terms
+--   Passes call …              none of the rows 1, 3 and 4 applies                                        new_date/specs/Standard
+--   Exact call t fields        a field record "in the exact domain"                                       new_date/specs/Standard
+--   argument_z call t fields   the call's arguments: the fields truncated, or what absent ones stand for  new_date/specs/Standard
+--   no_field                   "a bare map of 0", a record without fields                                 new_date/specs/Standard
+--   WrittenIn call t gap full  the record full has the arguments of the record gap, each as a field       new_date/specs/Calls
+--   stands, field_at fields i  whether a record has the field of bit i; that field, as f64                field_record/specs/FieldRecord
+--   time_value_of, start_of    the time value of a date's bits, none for row 2; where a setter starts     timevalue/specs/TimeValue, fields/specs/Outcome
+--   time_value, time_reply     a clipped time as f64, NaN for none; its bits as an answer                 make/specs/Make, fields/specs/Outcome
+--   Accepted zone              an accepted zone list                                                      zone/specs/Zone
+--   Writes form text           the text is "the Date Time String Format as 01 sets it", by its form       ecma262/specs/Format
+--   Denotes zone text t        t is "the instant that 01 says the text denotes"                           reader/specs/Denotes
+--   AcceptedText zone text     list and text are accepted: the text denotes an instant of the range       reader/specs/Denotes
+--   iso_text, utc_text …       the standard's texts                                                       ecma262/specs/Texts
+--   written value text out     the text is written, or the output is shorter than it (row 11)             writer/specs/Outcome
 -- The differential run is no theorem: docs/DIFFERENTIAL.md. That accepted lists exist, Demand3 says. The proofs are by the laws that are
 -- cited. Assumes nothing.
 use mathlib.Core.Path.{◌≡◌, sym, ap, ◌∙◌}
@@ -52,7 +56,7 @@ use Rattle.new_date.specs.Calls.{Call, build, set, WrittenIn}
 use Rattle.new_date.specs.Standard.{no_field, argument_z, new_date_z, shift_in_z, shift_out_z, value_from_z, Exact, Passes}
 use Rattle.new_date.proofs.NoField.{no-field-exact}
 use Rattle.fields.specs.Outcome.{start_of, time_reply, build_outcome, set_outcome}
-use Rattle.fields.proofs.Outcomes.{build-exact, build-first-nan, build-written-in, set-exact, set-first-nan, set-no-field, set-no-year-of-nan, set-of-nan, set-written-in, set-year-of-nan}
+use Rattle.fields.proofs.Outcomes.{build-exact, build-first-nan, build-written-in, no-field-passes, set-exact, set-first-nan, set-no-field, set-no-year-of-nan, set-of-nan, set-written-in, set-year-of-nan}
 use Rattle.reader.specs.Denotes.{Denotes, AcceptedText}
 use Rattle.reader.specs.Outcome.{read_outcome}
 use Rattle.reader.proofs.Denotation.{denotes-unique}
@@ -132,8 +136,8 @@ setters-follow-the-standard first local zone time fields z p w r e = set-exact f
 pub exact-records-exist : (call : Call) (local : Bool) → Passes call local zero_list first_is_one × Exact call (shift_in_z local (records zero_list) (pos 0)) first_is_one
 exact-records-exist = cases.exact-records-exist
 
-pub no-field-is-exact : (first : Part) (t : ℤ) → Shown t → Exact (set first) t no_field
-no-field-is-exact = no-field-exact
+pub no-field-is-exact : (first : Part) (local : Bool) (zone : List ℕ) → (local ≡ true → Accepted zone) → (t : ℤ) → Shown t → Passes (set first) local zone no_field × Exact (set first) t no_field
+no-field-is-exact first local zone l t h = (no-field-passes first local zone l, no-field-exact first t h)
 
 -- "A gap before a given argument … equals the call with the value just said written in": gap's absent fields are given in full
 pub setter-with-gaps-filled : (first : Part) (local : Bool) (zone : List ℕ) (time : ℕ) (gap full : List ℕ) (v : TimeValue) → Passes (set first) local zone gap → Passes (set first) local zone full
