@@ -3,11 +3,12 @@
 
 use crate::bite::{Bite, Wrong, WrongAnswer};
 use crate::case::Case;
+use crate::expected::present;
 use crate::outcome::Outcome;
 use crate::paper;
 use crate::standard::slots;
 use crate::whole;
-use original::exports::{Setter, calendar, make};
+use original::exports::{Setter, make};
 
 const fn answer(name: &'static str, wrong: WrongAnswer) -> Bite {
     Bite { name, wrong: Wrong::Answer(wrong) }
@@ -68,13 +69,9 @@ fn built(case: &Case, by: &Makers) -> Option<Outcome> {
     let Case::BuildUtc { record } = *case else {
         return None;
     };
-    let given = paper::field_record(record, 7).ok()?;
-    let mut fields = [f64::NAN, 0.0, 1.0, 0.0, 0.0, 0.0, 0.0];
-    for (field, given) in fields.iter_mut().zip(given) {
-        *field = given.unwrap_or(*field);
-    }
-    fields[0] = make::make_full_year(fields[0]);
-    Some(put_together(fields, by))
+    let mut parts = paper::builder_parts(&paper::field_record(record, 7).ok()?);
+    parts[0] = make::make_full_year(parts[0]);
+    Some(put_together(parts, by))
 }
 
 fn was_set(case: &Case, wanted: Setter, by: &Makers) -> Option<Outcome> {
@@ -82,22 +79,9 @@ fn was_set(case: &Case, wanted: Setter, by: &Makers) -> Option<Outcome> {
         return None;
     };
     let places = slots(setter);
-    let given = paper::field_record(record, places.len()).ok()?;
+    let fields = paper::field_record(record, places.len()).ok()?;
     let t = paper::time_value(time).ok()?.filter(|_| setter == wanted)? as f64;
-    let mut fields = [
-        f64::from(calendar::year_from_time(t)),
-        f64::from(calendar::month_from_time(t)),
-        f64::from(calendar::date_from_time(t)),
-        f64::from(calendar::hour_from_time(t)),
-        f64::from(calendar::min_from_time(t)),
-        f64::from(calendar::sec_from_time(t)),
-        f64::from(calendar::ms_from_time(t)),
-    ];
-    fields[places.start] = f64::NAN;
-    for (field, given) in fields[places].iter_mut().zip(given) {
-        *field = given.unwrap_or(*field);
-    }
-    Some(put_together(fields, by))
+    Some(put_together(paper::setter_parts(&fields, present(None, t), places.start), by))
 }
 
 #[cfg(test)]

@@ -35,6 +35,7 @@ pub struct Sides {
     pub zone_list: fn(&[u8]) -> Result<Vec<Record>, u32>,
     pub time_value: fn(u64) -> Result<Option<i64>, u32>,
     pub field_record: fn(&[u8], usize) -> Result<Fields, u32>,
+    pub setter_parts: fn(&Fields, [f64; 7], usize) -> [f64; 7],
     pub text: fn(&[u8]) -> Result<Form, u32>,
     pub instant: fn(&Form, &[Record]) -> i128,
     pub parse: fn(&[u8], &ZoneList) -> Option<i64>,
@@ -46,6 +47,7 @@ pub const RIGHT: Sides = Sides {
     zone_list: paper::zone_list,
     time_value: paper::time_value,
     field_record: paper::field_record,
+    setter_parts: paper::setter_parts,
     text: paper::text,
     instant: whole::instant,
     parse: original::parse,
@@ -182,35 +184,32 @@ pub fn year_unclaimed(year: f64) -> bool {
     year.is_finite() && year.abs() >= 9_007_199_254_740_992.0
 }
 
-/// The field builder: "absent: month 0, date 1, others 0, but year NaN". The gaps before the last
-/// given field are written in; the rest is left out of the original's call.
+/// The field builder. The gaps before the last given field are written in; the rest is left out of
+/// the original's call.
 fn build(sides: &Sides, list: Option<&[Record]>, record: &[u8]) -> Expected {
-    const ABSENT: [f64; 7] = [f64::NAN, 0.0, 1.0, 0.0, 0.0, 0.0, 0.0];
     let fields = (sides.field_record)(record, 7).unwrap();
     if fields[0].is_some_and(year_unclaimed) {
         return Expected::Unclaimed;
     }
-    let mut args = call_arguments(&fields, ABSENT);
+    let parts = paper::builder_parts(&fields);
     let t = match list {
-        None => original::build_utc(&args),
+        None => original::build_utc(&parts[..up_to_last_given(&fields)]),
+        // "Locally, a year alone equals the Rust call with month 0, and no field gives NaN."
         Some(list) => {
-            // "Locally, a year alone equals the Rust call with month 0, and no field gives NaN."
-            while args.len() < 2 {
-                args.push(ABSENT[args.len()]);
-            }
-            original::build_local(&ZoneList::new(list), &args)
+            let args = &parts[..up_to_last_given(&fields).max(2)];
+            original::build_local(&ZoneList::new(list), args)
         }
     };
-    valued(t, standard::build(list, &fields))
+    valued(t, standard::build(list, parts))
 }
 
-/// The arguments up to the last one given, absent ones filled in.
-fn call_arguments(fields: &Fields, absent: [f64; 7]) -> Vec<f64> {
-    let given = fields.iter().rposition(Option::is_some).map_or(0, |last| last + 1);
-    (0..given).map(|i| fields[i].unwrap_or(absent[i])).collect()
+/// How many fields there are up to the last one given.
+fn up_to_last_given(fields: &Fields) -> usize {
+    fields.iter().rposition(Option::is_some).map_or(0, |last| last + 1)
 }
 
-/// A setter: "in a setter the first is NaN, and any other keeps its present value".
+/// A setter. Without its first argument the original takes NaN for it, so the call always has that
+/// argument, the present value where it is absent; gaps are written in likewise.
 fn set(
     sides: &Sides,
     setter: Setter,
@@ -221,35 +220,32 @@ fn set(
     let fields = (sides.field_record)(record, setter_row(setter).3).unwrap();
     let t = f64::from_bits(time);
     let zone = list.map(ZoneList::new);
-    let args = call_arguments(&fields, present(setter, zone.as_ref(), t));
-    let answer = (sides.set)(setter, zone.as_ref(), t, &args);
-    valued(answer, standard::set(setter, list, (sides.time_value)(time).unwrap(), &fields))
+    let places = standard::slots(setter);
+    let put = |present| (sides.setter_parts)(&fields, present, places.start);
+    let parts = put(present(zone.as_ref(), t));
+    let args = &parts[places.clone()][..up_to_last_given(&fields).max(1)];
+    let answer = (sides.set)(setter, zone.as_ref(), t, args);
+    valued(answer, standard::set(setter, list, (sides.time_value)(time).unwrap(), put))
 }
 
-/// What an absent argument stands for, by the original's own functions.
-fn present(setter: Setter, zone: Option<&ZoneList>, t: f64) -> [f64; 7] {
+/// A date's present parts, by the original's own functions: year, month, date, hour, minute, second
+/// and millisecond.
+pub fn present(zone: Option<&ZoneList>, t: f64) -> [f64; 7] {
     // set_full_year starts from 0 with no shift; the others answer NaN whatever is filled in.
     let t = match zone {
         _ if t.is_nan() => 0.0,
         Some(zone) => local::local_time(t, zone),
         None => t,
     };
-    let minute = f64::from(calendar::min_from_time(t));
-    let second = f64::from(calendar::sec_from_time(t));
-    let millisecond = f64::from(calendar::ms_from_time(t));
-    let month = f64::from(calendar::month_from_time(t));
-    let date = f64::from(calendar::date_from_time(t));
-    let mut absent = [f64::NAN; 7];
-    let later: &[f64] = match setter {
-        Setter::Milliseconds | Setter::Date => &[],
-        Setter::Seconds => &[millisecond],
-        Setter::Minutes => &[second, millisecond],
-        Setter::Hours => &[minute, second, millisecond],
-        Setter::Month => &[date],
-        Setter::FullYear => &[month, date],
-    };
-    absent[1..=later.len()].copy_from_slice(later);
-    absent
+    [
+        f64::from(calendar::year_from_time(t)),
+        f64::from(calendar::month_from_time(t)),
+        f64::from(calendar::date_from_time(t)),
+        f64::from(calendar::hour_from_time(t)),
+        f64::from(calendar::min_from_time(t)),
+        f64::from(calendar::sec_from_time(t)),
+        f64::from(calendar::ms_from_time(t)),
+    ]
 }
 
 /// A function below the C interface; the list is empty where it was not accepted.

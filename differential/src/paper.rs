@@ -1,5 +1,6 @@
-//! Document 01's refusal table, read from the paper: each fault with its number, first one first.
-//! Nothing here was taken from the proved code or from the original.
+//! Document 01's refusal table, read from the paper: each fault with its number, first one first;
+//! and what an absent field of a record stands for. Nothing here was taken from the proved code or
+//! from the original.
 
 /// A record of a zone list: a second and the offset, in seconds, from it on.
 pub type Record = (i64, i32);
@@ -59,6 +60,27 @@ pub fn field_record(bytes: &[u8], bits: usize) -> Result<Fields, u32> {
         }
     }
     Ok(fields)
+}
+
+/// What the builder is given: year, month (January is 0), date, hour, minute, second and
+/// millisecond. "Absent: in the builder month 0, date 1, others 0, but year NaN."
+pub fn builder_parts(fields: &Fields) -> [f64; 7] {
+    put(fields, [f64::NAN, 0.0, 1.0, 0.0, 0.0, 0.0, 0.0], 0)
+}
+
+/// What a setter makes of the date's present parts, in the same order; its first field is the part
+/// at `first`. "In a setter every absent field keeps its present value, the first too, which parts
+/// from the Rust."
+pub fn setter_parts(fields: &Fields, present: [f64; 7], first: usize) -> [f64; 7] {
+    put(fields, present, first)
+}
+
+/// The given fields in their places among the parts; an absent one leaves what is there.
+fn put(fields: &Fields, mut parts: [f64; 7], first: usize) -> [f64; 7] {
+    for (part, given) in parts[first..].iter_mut().zip(fields) {
+        *part = given.unwrap_or(*part);
+    }
+    parts
 }
 
 /// What follows a time.

@@ -4,7 +4,7 @@
 use crate::expected::year_unclaimed;
 use crate::lower::Export;
 use crate::outcome::NAN;
-use crate::paper::{Fields, Record};
+use crate::paper::Record;
 use crate::whole::{self, Made, Parts};
 use original::exports::Setter;
 
@@ -23,15 +23,11 @@ fn finished(list: Option<&[Record]>, made: Made) -> Option<u64> {
 }
 
 /// The field builder: MakeFullYear, MakeDay, MakeTime, MakeDate, UTC(t) and TimeClip.
-pub fn build(list: Option<&[Record]>, fields: &Fields) -> Option<u64> {
-    let mut given = [f64::NAN, 0.0, 1.0, 0.0, 0.0, 0.0, 0.0];
-    for (slot, field) in given.iter_mut().zip(fields) {
-        *slot = field.unwrap_or(*slot);
+pub fn build(list: Option<&[Record]>, mut parts: [f64; 7]) -> Option<u64> {
+    if parts[0].is_finite() {
+        parts[0] = whole::full_year(parts[0]);
     }
-    if given[0].is_finite() {
-        given[0] = whole::full_year(given[0]);
-    }
-    finished(list, whole::make_fields(given))
+    finished(list, whole::make_fields(parts))
 }
 
 /// Where a setter's arguments go among year, month, date, hour, minute, second, millisecond.
@@ -47,30 +43,20 @@ pub fn slots(setter: Setter) -> std::ops::Range<usize> {
     }
 }
 
-/// A setter: the present fields of the local time, the given ones put in their places.
+/// A setter: the present parts of the local time, the given ones put in their places.
 pub fn set(
     setter: Setter,
     list: Option<&[Record]>,
     time: Option<i64>,
-    fields: &Fields,
+    put: impl Fn([f64; 7]) -> [f64; 7],
 ) -> Option<u64> {
     let local = match time {
         None if setter == Setter::FullYear => 0,
         None => return Some(NAN),
         Some(t) => i128::from(t) + list.map_or(0, |list| whole::offset_at(list, t.into())),
     };
-    let p = whole::parts(local);
-    let mut all =
-        [p.year, p.month - 1, p.date, p.hour, p.minute, p.second, p.millisecond].map(|n| n as f64);
-    let places = slots(setter);
-    for (i, slot) in places.clone().enumerate() {
-        match fields[i] {
-            Some(given) => all[slot] = given,
-            None if i == 0 => all[slot] = f64::NAN,
-            None => {}
-        }
-    }
-    finished(list, whole::make_fields(all))
+    let present = whole::apart(local).map(|n| n as f64);
+    finished(list, whole::make_fields(put(present)))
 }
 
 /// No equality with the original is claimed: `make_full_year` from 2^53 on, and a year estimate

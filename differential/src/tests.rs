@@ -7,7 +7,7 @@ use crate::outcome::NAN;
 use crate::paper;
 use crate::random::Random;
 use crate::whole;
-use original::exports::Setter;
+use ::original::exports::{self as original, Setter, ZoneList};
 
 fn number(text: &str) -> u32 {
     read(text).0
@@ -199,9 +199,12 @@ fn writers_rows() {
     assert_eq!(outcome.out[29], 7);
 }
 
+fn value(case: &Case) -> f64 {
+    f64::from_bits(expected(case).outcome().unwrap().value)
+}
+
 #[test]
-fn absent_fields() {
-    let value = |case: &Case| f64::from_bits(expected(case).outcome().unwrap().value);
+fn absent_fields_of_the_builder() {
     let zone = &list_bytes(&[(0, 3600)]);
     // No field, or no year, is NaN; a year alone is its first moment.
     assert!(value(&Case::BuildUtc { record: &[0] }).is_nan());
@@ -209,19 +212,75 @@ fn absent_fields() {
     assert!(value(&Case::BuildUtc { record: &record(0b10, &[3.0]) }).is_nan());
     assert_eq!(value(&Case::BuildUtc { record: &record(1, &[70.0]) }), 0.0);
     assert_eq!(value(&Case::BuildLocal { zone, record: &record(1, &[70.0]) }), -3_600_000.0);
-    // A setter's absent first argument is NaN, even where later ones are given.
-    let seconds = |record: &[u8]| value(&Case::SetUtc { setter: Setter::Seconds, time: 0, record });
-    assert!(seconds(&record(0b10, &[5.0])).is_nan());
-    assert_eq!(seconds(&record(0b11, &[1.0, 5.0])), 1005.0);
+}
+
+/// 2 January 1970, 01:01:01.001.
+const TIME: f64 = 90_061_001.0;
+
+#[test]
+fn absent_fields_of_a_setter() {
+    let set = |setter, map, fields: &[f64]| {
+        let (time, record) = (TIME.to_bits(), &record(map, fields));
+        value(&Case::SetUtc { setter, time, record })
+    };
+    // The first keeps its present value where later ones are given.
+    assert_eq!(set(Setter::Seconds, 0b10, &[5.0]), 90_061_005.0);
+    assert_eq!(set(Setter::Minutes, 0b10, &[5.0]), 90_065_001.0);
+    assert_eq!(set(Setter::Hours, 0b10, &[5.0]), 90_301_001.0);
+    assert_eq!(set(Setter::Hours, 0b1010, &[5.0, 7.0]), 90_301_007.0);
+    assert_eq!(set(Setter::Month, 0b10, &[15.0]), 14.0 * 86_400_000.0 + 3_661_001.0);
+    assert_eq!(set(Setter::FullYear, 0b10, &[1.0]), 32.0 * 86_400_000.0 + 3_661_001.0);
+    assert_eq!(set(Setter::FullYear, 0b100, &[1.0]), 3_661_001.0);
     // A gap keeps the present value: hours 5, minute as it was, second 7.
-    let time = 90_061_001.0f64.to_bits();
-    let hours = Case::SetUtc { setter: Setter::Hours, time, record: &record(0b101, &[5.0, 7.0]) };
-    assert_eq!(value(&hours), 86_400_000.0 + 5.0 * 3_600_000.0 + 60_000.0 + 7000.0 + 1.0);
-    // set_full_year of NaN starts from 0 with no shift in; the way out is shifted.
-    let year = record(1, &[2024.0]);
-    let nan = f64::NAN.to_bits();
-    let full_year = Case::Set { setter: Setter::FullYear, zone, time: nan, record: &year };
-    assert_eq!(value(&full_year), 1_704_067_200_000.0 - 3_600_000.0);
+    let hours = set(Setter::Hours, 0b101, &[5.0, 7.0]);
+    assert_eq!(hours, 86_400_000.0 + 5.0 * 3_600_000.0 + 60_000.0 + 7000.0 + 1.0);
+    // A first field that is given is taken, NaN too.
+    assert_eq!(set(Setter::Seconds, 0b11, &[2.0, 5.0]), 90_062_005.0);
+    for (setter, ..) in SETTERS {
+        assert!(set(setter, 1, &[f64::NAN]).is_nan(), "{setter:?}");
+    }
+}
+
+#[test]
+fn a_record_with_no_field() {
+    let zone = &list_bytes(&[(0, 7200), (3600, 3600)]);
+    for (setter, ..) in SETTERS {
+        let utc = |t: f64| value(&Case::SetUtc { setter, time: t.to_bits(), record: &[0] });
+        let local = |t: f64| value(&Case::Set { setter, zone, time: t.to_bits(), record: &[0] });
+        assert_eq!(utc(TIME), TIME, "{setter:?}");
+        assert_eq!(local(TIME), TIME, "{setter:?}");
+        // 02:00 local time comes twice and is taken for the later one.
+        assert_eq!(local(0.0), 3_600_000.0, "{setter:?}");
+        // set_full_year of NaN starts from 0 with no shift in; the way out is shifted.
+        if setter == Setter::FullYear {
+            assert_eq!((utc(f64::NAN), local(f64::NAN)), (0.0, -7_200_000.0));
+        } else {
+            assert!(utc(f64::NAN).is_nan() && local(f64::NAN).is_nan(), "{setter:?}");
+        }
+    }
+}
+
+#[test]
+fn full_year_of_nan_starts_from_0() {
+    let zone = &list_bytes(&[(0, 3600)]);
+    let set = |map, fields: &[f64]| {
+        let (setter, time, record) = (Setter::FullYear, f64::NAN.to_bits(), &record(map, fields));
+        value(&Case::Set { setter, zone, time, record })
+    };
+    assert_eq!(set(1, &[2024.0]), 1_704_067_200_000.0 - 3_600_000.0);
+    assert_eq!(set(0b10, &[1.0]), 31.0 * 86_400_000.0 - 3_600_000.0);
+}
+
+/// Where 01 parts from the Rust: without its first argument the original's own call clears a date.
+#[test]
+fn the_original_without_a_first_argument_gives_nan() {
+    let zone = &ZoneList::new(&[(0, 3600)]);
+    for (setter, ..) in SETTERS {
+        for t in [0.0, TIME, f64::NAN] {
+            assert!(original::set(setter, None, t, &[]).is_nan(), "{setter:?} {t}");
+            assert!(original::set(setter, Some(zone), t, &[]).is_nan(), "{setter:?} {t}");
+        }
+    }
 }
 
 #[test]

@@ -88,6 +88,12 @@ pub fn make(f: [i128; 7]) -> i128 {
     day * MS_PER_DAY + f[3] * 3_600_000 + f[4] * 60_000 + f[5] * 1000 + f[6]
 }
 
+/// A time taken apart into what `make` makes it of.
+pub fn apart(t: i128) -> [i128; 7] {
+    let p = parts(t);
+    [p.year, p.month - 1, p.date, p.hour, p.minute, p.second, p.millisecond]
+}
+
 /// The instant that 01 says a text denotes.
 pub fn instant(form: &Form, zone: &[Record]) -> i128 {
     let fields = [

@@ -16,6 +16,7 @@ fn differences(run: &mut Run) {
     local_dates(run);
     local_texts(run);
     fields(run);
+    absent_first(run);
 }
 
 /// Texts under a list: local ones about a change of the offset, and forms.
@@ -67,7 +68,7 @@ fn local_texts(run: &mut Run) {
 /// 2^53, from which on f64 has not every whole number.
 const TWO_53: f64 = 9_007_199_254_740_992.0;
 
-/// The builder's fields far out, and a setter without its first argument.
+/// The builder's fields far out.
 fn fields(run: &mut Run) {
     let rows: [(&[f64], i64); 7] = [
         (&[292_278_994.0, 10.0, -106_751_991_242.0], -86_400_000),
@@ -81,7 +82,20 @@ fn fields(run: &mut Run) {
     for (fields, t) in rows {
         row(run, &Case::BuildUtc { record: &record(fields) }, &Gives::Time(t));
     }
+}
+
+/// A setter's absent first field keeps its present value: hours with the minutes alone, then no
+/// field at all. A date is cleared by a first field of NaN.
+fn absent_first(run: &mut Run) {
     let minutes = &[&[0b10], &5f64.to_le_bytes()[..]].concat();
     let alone = Case::SetUtc { setter: Setter::Hours, time: 0, record: minutes };
-    row(run, &alone, &Gives::Nan);
+    row(run, &alone, &Gives::Time(300_000));
+    let (setter, bare, nan) = (Setter::Minutes, &[0], f64::NAN);
+    let time = 90_061_001f64.to_bits();
+    row(run, &Case::SetUtc { setter, time, record: bare }, &Gives::Time(90_061_001));
+    row(run, &Case::SetUtc { setter, time, record: &record(&[nan]) }, &Gives::Nan);
+    let zone = &list_bytes(&[(0, 7200), (3600, 3600)]);
+    row(run, &Case::Set { setter, zone, time: 0, record: bare }, &Gives::Time(3_600_000));
+    let (setter, time) = (Setter::FullYear, nan.to_bits());
+    row(run, &Case::SetUtc { setter, time, record: bare }, &Gives::Time(0));
 }
