@@ -29,11 +29,6 @@ fn huge(r: &mut Random, field: usize, far: u32) -> f64 {
     r.pick(&[-1.0, 1.0]) * number.floor()
 }
 
-fn parts(t: i128) -> [i128; 7] {
-    let p = whole::parts(t);
-    [p.year, p.month - 1, p.date, p.hour, p.minute, p.second, p.millisecond]
-}
-
 /// A record of the fields at `places`: by whole numbers about the time `t`, where `base` has the
 /// other fields and the absent ones. `given` has the bits of those given in any case.
 fn record(
@@ -72,7 +67,7 @@ fn build(run: &mut Run) {
         let list = list(&mut run.random);
         let r = &mut run.random;
         let given = r.next() as u8 & 0x7F | 1;
-        let own = parts(time(r, &list).into());
+        let own = whole::apart(time(r, &list).into());
         let base = std::array::from_fn(|i| if given >> i & 1 == 1 { own[i] } else { ABSENT[i] });
         let t = time(r, &list).into();
         let record = &record(r, base, 0..7, given, t, FAR_BUILT);
@@ -81,7 +76,8 @@ fn build(run: &mut Run) {
     }
 }
 
-/// Of a setter with one field, that field from the date to any other time.
+/// Every pair of a setter's fields, the others given or absent, the first too; of a setter with one
+/// field, that field from the date to any other time.
 fn set(run: &mut Run) {
     for _ in 0..run.times(6000) {
         let list = list(&mut run.random);
@@ -89,8 +85,8 @@ fn set(run: &mut Run) {
         for (setter, _, _, fields) in SETTERS {
             let r = &mut run.random;
             let (from, to) = (time(r, &list), time(r, &list).into());
-            let given = r.next() as u8 & ((1 << fields) - 1) | 1;
-            let record = &record(r, parts(from.into()), slots(setter), given, to, FAR);
+            let given = r.next() as u8 & ((1 << fields) - 1);
+            let record = &record(r, whole::apart(from.into()), slots(setter), given, to, FAR);
             let time = (from as f64).to_bits();
             run.check(&Case::SetUtc { setter, time, record });
             run.check(&Case::Set { setter, zone, time, record });

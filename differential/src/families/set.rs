@@ -1,14 +1,17 @@
-//! The seven setters, UTC and local: every map, every wrong length, times of every kind, gaps, and
-//! fields in the exact domain and beyond.
+//! The seven setters, UTC and local: every map, every wrong length, times of every kind, gaps,
+//! absent first fields about a change of the offset, and fields in the exact domain and beyond.
 
 use super::Family;
 use crate::case::{Case, SETTERS};
-use crate::inputs::{broken_list, list, list_bytes, odd_bits, record, time_bits};
+use crate::inputs::{broken_list, list, list_bytes, long_list, odd_bits, record, time_bits};
 use crate::run::Run;
 use original::exports::Setter;
 
-pub const FAMILIES: &[Family] =
-    &[Family { name: "set_maps", run: maps }, Family { name: "set_random", run: random }];
+pub const FAMILIES: &[Family] = &[
+    Family { name: "set_maps", run: maps },
+    Family { name: "set_random", run: random },
+    Family { name: "set_first_absent", run: first_absent },
+];
 
 fn set(run: &mut Run, setter: Setter, zone: &[u8], time: u64, record: &[u8]) {
     run.check(&Case::SetUtc { setter, time, record });
@@ -32,7 +35,8 @@ fn first(setter: Setter) -> usize {
 fn maps(run: &mut Run) {
     let zone = list_bytes(&[(-5000, 3600), (7000, -7200)]);
     let mut times = odd_bits();
-    times.push(1.7e12f64.to_bits());
+    // At the local time of the second one the list has another offset.
+    times.extend([1.7e12, 6.9e6].map(f64::to_bits));
     for (setter, ..) in SETTERS {
         for map in 0..=255 {
             for &time in &times {
@@ -75,5 +79,46 @@ fn random(run: &mut Run) {
         if run.done() {
             return;
         }
+    }
+}
+
+/// The first field is absent, often every field is, on dates within half a day of a change of the
+/// offset: the way back from local time may have another offset than the way there.
+fn first_absent(run: &mut Run) {
+    for _ in 0..run.times(2000) {
+        let list = long_list(&mut run.random, 3);
+        let zone = &list_bytes(&list);
+        for (setter, _, _, fields) in SETTERS {
+            let r = &mut run.random;
+            let time = 1000 * r.pick(&list[1..]).0 + r.between(-43_200_000, 43_200_000);
+            let later = r.next() as u8 & ((1 << fields) - 2);
+            let map = r.pick(&[0, later]);
+            let bytes = record(r, map, first(setter));
+            set(run, setter, zone, (time as f64).to_bits(), &bytes);
+        }
+        if run.done() {
+            return;
+        }
+    }
+}
+
+#[cfg(test)]
+mod tests {
+    use super::*;
+    use crate::outcome::{NAN, Outcome};
+    use std::collections::BTreeMap;
+
+    /// Of each setter, local calls with no field that give another date than theirs.
+    #[test]
+    fn no_field_moves_local_dates_in_number() {
+        let mut moved = BTreeMap::<&str, u64>::new();
+        let mut collector = |case: &Case, outcome: &Outcome| {
+            if let Case::Set { time, record: [0], .. } = *case {
+                let kept = [NAN, (f64::from_bits(time) + 0.0).to_bits()].contains(&outcome.value);
+                *moved.entry(case.tag()).or_default() += u64::from(!kept);
+            }
+        };
+        first_absent(&mut Run::collecting("set_first_absent", 1, &mut collector));
+        assert!(SETTERS.iter().all(|row| moved[row.2] > 200), "{moved:?}");
     }
 }
