@@ -81,10 +81,10 @@ pub fn all(seed: u64, threads: usize) -> bool {
                 while let Some(bite) = bites.get(next.fetch_add(1, Ordering::Relaxed)) {
                     match caught(bite, seed) {
                         Some((family, line)) => {
-                            println!("{:36} caught by {family}: {line:.80}", bite.name);
+                            println!("{:38} caught by {family}: {line:.80}", bite.name);
                         }
                         None => {
-                            println!("{:36} NOT CAUGHT", bite.name);
+                            println!("{:38} NOT CAUGHT", bite.name);
                             missed.fetch_add(1, Ordering::Relaxed);
                         }
                     }

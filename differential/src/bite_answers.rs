@@ -2,10 +2,11 @@
 
 use crate::bite::{Bite, Wrong, WrongAnswer};
 use crate::case::Case;
-use crate::expected::expected;
+use crate::expected::{expected, present};
 use crate::inputs::list_bytes;
 use crate::outcome::Outcome;
 use crate::paper::{self, Zone};
+use crate::standard::slots;
 use crate::whole;
 use original::exports::Setter;
 
@@ -41,11 +42,29 @@ pub const ANSWERS: &[Bite] = &[
     }),
     answer("suffix looked up at the instant", suffix_at_instant),
     answer("setter returns its date", setter_idle),
-    answer("absent first argument kept", absent_first_kept),
-    answer("full year of NaN is NaN", |c, _| match *c {
-        Case::SetUtc { setter: Setter::FullYear, time, .. } if f64::from_bits(time).is_nan() => {
-            Some(Outcome::time(f64::NAN))
+    answer("absent first field is NaN", |c, _| setter_first_as(c, f64::NAN)),
+    answer("absent first field is 0", |c, _| setter_first_as(c, 0.0)),
+    answer("absent first field from the instant", absent_first_at_instant),
+    answer("absent first field: later ones ignored", later_ignored),
+    answer("first field of NaN as absent", nan_first_as_absent),
+    answer("a bare map gives the local date back", |c, o| match *c {
+        Case::Set { time, record: [0], .. } if !f64::from_bits(time).is_nan() => setter_idle(c, o),
+        _ => None,
+    }),
+    answer("full year of NaN is NaN", |c, o| {
+        full_year_of_nan(c, o).then(|| Outcome::time(f64::NAN))
+    }),
+    answer("absent full year of a NaN date is NaN", |c, o| {
+        (full_year_of_nan(c, o) && c.input()[0] & 1 == 0).then(|| Outcome::time(f64::NAN))
+    }),
+    answer("full year of NaN from 0 shifted in", |c, o| match *c {
+        Case::Set { setter, zone, record, .. } if full_year_of_nan(c, o) => {
+            by(Case::Set { setter, zone, time: 0, record })
         }
+        _ => None,
+    }),
+    answer("the builder's absent year is 1970", |c, _| match *c {
+        Case::BuildUtc { .. } | Case::BuildLocal { .. } => first_as(c, 1970.0),
         _ => None,
     }),
     answer("builder keeps years 0 to 99", builder_keeps_short_years),
@@ -128,6 +147,25 @@ fn with_zone<'a>(case: &Case<'a>, zone: &'a [u8]) -> Option<Case<'a>> {
     }
 }
 
+/// The same call with another record.
+fn with_record<'a>(case: &Case<'a>, record: &'a [u8]) -> Option<Case<'a>> {
+    match *case {
+        Case::BuildUtc { .. } => Some(Case::BuildUtc { record }),
+        Case::BuildLocal { zone, .. } => Some(Case::BuildLocal { zone, record }),
+        Case::SetUtc { setter, time, .. } => Some(Case::SetUtc { setter, time, record }),
+        Case::Set { setter, zone, time, .. } => Some(Case::Set { setter, zone, time, record }),
+        _ => None,
+    }
+}
+
+/// The date that a setter is given.
+fn setter_date(case: &Case) -> Option<f64> {
+    match *case {
+        Case::SetUtc { time, .. } | Case::Set { time, .. } => Some(f64::from_bits(time)),
+        _ => None,
+    }
+}
+
 fn offset_as_later(case: &Case, _: &Outcome) -> Option<Outcome> {
     let mut text = text_of(case)?.to_vec();
     let t = text.iter().position(|b| *b == b'T')?;
@@ -184,10 +222,7 @@ fn record_before_time(case: &Case, o: &Outcome) -> Option<Outcome> {
 }
 
 fn record_skipped_at_nan(case: &Case, o: &Outcome) -> Option<Outcome> {
-    let (Case::SetUtc { time, .. } | Case::Set { time, .. }) = *case else {
-        return None;
-    };
-    let skipped = f64::from_bits(time).is_nan() && [3, 4].contains(&o.number);
+    let skipped = setter_date(case)?.is_nan() && [3, 4].contains(&o.number);
     skipped.then(|| Outcome::time(f64::NAN))
 }
 
@@ -223,18 +258,50 @@ fn suffix_at_instant(case: &Case, o: &Outcome) -> Option<Outcome> {
 }
 
 fn setter_idle(case: &Case, o: &Outcome) -> Option<Outcome> {
-    let (Case::SetUtc { time, .. } | Case::Set { time, .. }) = *case else {
-        return None;
-    };
-    (o.number == 0).then(|| Outcome::time(f64::from_bits(time)))
+    let date = setter_date(case)?;
+    (o.number == 0).then(|| Outcome::time(date + 0.0))
 }
 
-/// An absent first argument answers the date unchanged.
-fn absent_first_kept(case: &Case, o: &Outcome) -> Option<Outcome> {
-    let (Case::SetUtc { record, .. } | Case::Set { record, .. }) = *case else {
+/// With the absent first field given as `value`.
+fn first_as(case: &Case, value: f64) -> Option<Outcome> {
+    let (&map, later) = case.input().split_first().filter(|(map, _)| *map & 1 == 0)?;
+    let record = [&[map | 1], &value.to_le_bytes()[..], later].concat();
+    by(with_record(case, &record)?)
+}
+
+fn setter_first_as(case: &Case, value: f64) -> Option<Outcome> {
+    setter_date(case)?;
+    first_as(case, value)
+}
+
+/// The present value is that of the UTC date.
+fn absent_first_at_instant(case: &Case, o: &Outcome) -> Option<Outcome> {
+    let Case::Set { setter, time, .. } = *case else {
         return None;
     };
-    (record.first()? & 1 == 0).then(|| setter_idle(case, o))?
+    let value = || present(None, f64::from_bits(time))[slots(setter).start];
+    (o.number == 0).then(|| first_as(case, value()))?
+}
+
+fn later_ignored(case: &Case, o: &Outcome) -> Option<Outcome> {
+    setter_date(case).filter(|_| o.number == 0)?;
+    (case.input()[0] & 1 == 0).then(|| by(with_record(case, &[0])?))?
+}
+
+fn nan_first_as_absent(case: &Case, _: &Outcome) -> Option<Outcome> {
+    setter_date(case)?;
+    let (&map, fields) = case.input().split_first().filter(|(map, _)| *map & 1 == 1)?;
+    let (first, later) = fields.split_first_chunk()?;
+    let record = [&[map & !1], later].concat();
+    f64::from_le_bytes(*first).is_nan().then(|| by(with_record(case, &record)?))?
+}
+
+fn full_year_of_nan(case: &Case, o: &Outcome) -> bool {
+    let full_year = matches!(
+        case,
+        Case::SetUtc { setter: Setter::FullYear, .. } | Case::Set { setter: Setter::FullYear, .. }
+    );
+    full_year && o.number == 0 && setter_date(case).is_some_and(f64::is_nan)
 }
 
 /// A record with one field replaced.

@@ -22,6 +22,7 @@ pub const SIDES: &[Bite] = &[
     sides("reading: equal seconds", Sides { zone_list: equal_seconds, ..RIGHT }),
     sides("reading: subnormals are 0", Sides { time_value: subnormals, ..RIGHT }),
     sides("reading: own bits counted", Sides { field_record: own_bits, ..RIGHT }),
+    sides("reading: absent first field is NaN", Sides { setter_parts: absent_first_nan, ..RIGHT }),
     sides("original: one millisecond off", Sides { parse: off_by_one, ..RIGHT }),
     sides("original: accepts one more day", Sides { parse: one_more_day, ..RIGHT }),
     sides("original: local setter as UTC", Sides { set: set_as_utc, ..RIGHT }),
@@ -87,6 +88,13 @@ fn own_bits(bytes: &[u8], bits: usize) -> Result<Fields, u32> {
         Err(4) => Err(3),
         right => right,
     }
+}
+
+/// The Rust's own call without its first argument: a parting that 01 names.
+fn absent_first_nan(fields: &Fields, present: [f64; 7], first: usize) -> [f64; 7] {
+    let mut parts = paper::setter_parts(fields, present, first);
+    parts[first] = fields[0].unwrap_or(f64::NAN);
+    parts
 }
 
 fn off_by_one(text: &[u8], zone: &ZoneList) -> Option<i64> {
