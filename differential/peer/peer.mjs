@@ -42,17 +42,18 @@ const offsetAt = (list, t) => (list.findLast((record) => record.from <= t) ?? li
 // The setters by the last three letters of the tag; `setUTC` and `set` stand before.
 const setters = { MIL: "Milliseconds", SEC: "Seconds", MIN: "Minutes", HOU: "Hours", DAT: "Date", MON: "Month", FYR: "FullYear" };
 
-// 01's value for an absent argument before a given one: V8 has no such call, so it is written in. `time` is read off the clock.
+// What 01 says of an absent field is written in. Of a gap V8 has no call; of a setter's absent first argument V8 makes NaN, as ECMA-262 does,
+// where 01 keeps the present value. `time` is read off the clock; V8's setFullYear starts from 0 where it is NaN, its other setters give NaN.
 function filled(name, time, given) {
     const now = new Date(Number.isNaN(time) ? 0 : time);
     const present = {
-        MIL: [NaN],
-        SEC: [NaN, now.getUTCMilliseconds()],
-        MIN: [NaN, now.getUTCSeconds(), now.getUTCMilliseconds()],
-        HOU: [NaN, now.getUTCMinutes(), now.getUTCSeconds(), now.getUTCMilliseconds()],
-        DAT: [NaN],
-        MON: [NaN, now.getUTCDate()],
-        FYR: [NaN, now.getUTCMonth(), now.getUTCDate()],
+        MIL: [now.getUTCMilliseconds()],
+        SEC: [now.getUTCSeconds(), now.getUTCMilliseconds()],
+        MIN: [now.getUTCMinutes(), now.getUTCSeconds(), now.getUTCMilliseconds()],
+        HOU: [now.getUTCHours(), now.getUTCMinutes(), now.getUTCSeconds(), now.getUTCMilliseconds()],
+        DAT: [now.getUTCDate()],
+        MON: [now.getUTCMonth(), now.getUTCDate()],
+        FYR: [now.getUTCFullYear(), now.getUTCMonth(), now.getUTCDate()],
         UTC: [NaN, 0, 1, 0, 0, 0, 0],
         LOC: [NaN, 0, 1, 0, 0, 0, 0],
     }[name];

@@ -48,10 +48,12 @@ const word = (x) => {
     bytes.writeDoubleBE(x, 0);
     return bytes.toString("hex");
 };
-const record = (fields) => {
-    const bytes = Buffer.alloc(1 + 8 * fields.length);
-    bytes[0] = (1 << fields.length) - 1;
-    fields.forEach((x, i) => bytes.writeDoubleLE(x, 1 + 8 * i));
+// A record of the fields, the first `absent` of them left out.
+const record = (fields, absent = 0) => {
+    const given = fields.slice(absent);
+    const bytes = Buffer.alloc(1 + 8 * given.length);
+    bytes[0] = ((1 << given.length) - 1) << absent;
+    given.forEach((x, i) => bytes.writeDoubleLE(x, 1 + 8 * i));
     return bytes.toString("hex");
 };
 
@@ -68,7 +70,7 @@ for (let i = 0; i < count; i++) {
     lines.push(`BLOC ${list} ${record(fields.slice(0, 2 + below(6)))}`);
     for (const [tag, [start, most]] of Object.entries(setters)) {
         const from = clock.getTime() + below(48 * hour) - 24 * hour;
-        lines.push(`${tag} ${list} ${word(from)} ${record(fields.slice(start, start + 1 + below(most)))}`);
+        lines.push(`${tag} ${list} ${word(from)} ${record(fields.slice(start, start + 1 + below(most)), below(2))}`);
     }
 }
 writeFileSync(`${folder}/stdin`, lines.join("\n") + "\n");
