@@ -109,10 +109,10 @@ zovattha_answer zovattha_build_local(const uint8_t *zone, size_t zone_len, const
 
 /*
  * Setters: bit 0 is the first argument and so on. Every absent field keeps its present value, the first too: an hours record with the minute
- * alone leaves the hour as it is, and a bare map of 0 sets nothing. A date is cleared by its first field: bit 0 and a NaN, in any setter; so
- * is a script's call without arguments, which is NaN in ECMA-262 and in the original, handed on. NaN gives NaN, but full_year starts from 0,
- * so that there an absent year is 1970. Refusals 2, 3, 4; the local ones 1, 2, 3, 4. These go back from local time to UTC by the rule above,
- * so that near a change of offset a time can move by an hour though its fields are set to what they are, or none is given.
+ * alone leaves the hour as it is, and a bare map of 0 sets nothing. A date is cleared by a NaN in the first field, in any setter. A script's
+ * call without arguments, which is NaN in ECMA-262 and in the original, is to be handed on that way. NaN gives NaN, but full_year starts
+ * from 0, so that there an absent year is 1970. Refusals 2, 3, 4; the local ones 1, 2, 3, 4. These go back from local time to UTC by the rule
+ * above, so that near a change of offset a time can move by an hour though its fields are set to what they are, or none is given.
  */
 zovattha_answer zovattha_set_utc_milliseconds(uint64_t time, const uint8_t *record, size_t record_len); /* ms */
 zovattha_answer zovattha_set_utc_seconds(uint64_t time, const uint8_t *record, size_t record_len); /* sec, ms */

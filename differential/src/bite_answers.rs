@@ -47,7 +47,7 @@ pub const ANSWERS: &[Bite] = &[
     answer("absent first field from the instant", absent_first_at_instant),
     answer("absent first field: later ones ignored", later_ignored),
     answer("first field of NaN as absent", nan_first_as_absent),
-    answer("a bare map gives the local date back", |c, o| match *c {
+    answer("no field: the local date given back", |c, o| match *c {
         Case::Set { time, record: [0], .. } if !f64::from_bits(time).is_nan() => setter_idle(c, o),
         _ => None,
     }),

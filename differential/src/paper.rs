@@ -62,8 +62,8 @@ pub fn field_record(bytes: &[u8], bits: usize) -> Result<Fields, u32> {
     Ok(fields)
 }
 
-/// What the builder is given: year, month (January is 0), date, hour, minute, second and
-/// millisecond. "Absent: in the builder month 0, date 1, others 0, but year NaN."
+/// The builder's parts: year, month (January is 0), date, hour, minute, second and millisecond, an
+/// absent one by its default. "Absent: in the builder month 0, date 1, others 0, but year NaN."
 pub fn builder_parts(fields: &Fields) -> [f64; 7] {
     put(fields, [f64::NAN, 0.0, 1.0, 0.0, 0.0, 0.0, 0.0], 0)
 }

@@ -55,9 +55,9 @@ static int set_one_field(const uint8_t *zone, size_t zone_len, uint64_t time) {
     zovattha_answer later = zovattha_set_hours(zone, zone_len, time, minute, sizeof minute);
     if (refused("set the minute", later) || print_local(zone, zone_len, later.value)) return 1;
 
-    uint8_t none[1 + 8] = {1};
-    put(none + 1, ZOVATTHA_NAN, 8);
-    zovattha_answer cleared = zovattha_set_hours(zone, zone_len, time, none, sizeof none);
+    uint8_t nan_hour[1 + 8] = {1};
+    put(nan_hour + 1, ZOVATTHA_NAN, 8);
+    zovattha_answer cleared = zovattha_set_hours(zone, zone_len, time, nan_hour, sizeof nan_hour);
     return refused("clear", cleared) || print_local(zone, zone_len, cleared.value);
 }
 

@@ -40,7 +40,7 @@ struct row {
     double in_list;
 };
 
-/* What V8's Date gives from BASE, in UTC and at +05:30; a gap is the call with the present value written in. */
+/* What V8's Date gives from BASE, in UTC and at +05:30; an absent field, the first too, is the call with the present value written in. */
 static const struct row ROWS[] = {
     {"millisecond", MILLISECONDS, 1, {1}, 1709238896001, 1709238896001},
     {"millisecond -1.5", MILLISECONDS, 1, {-1.5}, 1709238895999, 1709238895999},

@@ -218,7 +218,7 @@ macro_rules! setters {
 
         #[doc = concat!("The time with its local ", $what, " set; NaN where that is outside the range.")]
         /// A field that is not given keeps its present value; a first field that is NaN clears the date.
-        /// It can be an hour off
+        /// The answer can be an hour off
         /// [near a change of offset](crate#local-times-near-a-change-of-offset).
         ///
         $(#[$example])*

@@ -45,7 +45,8 @@ macro_rules! fields {
         pub struct $name { $($field: Option<f64>),* }
 
         impl $name {
-            /// No field given: each stands for what the module's documentation says.
+            /// No field given: in a setter each keeps its present value; in the builder each has its
+            /// default, and without a year the answer is NaN.
             pub const fn new() -> Self {
                 Self { $($field: None),* }
             }

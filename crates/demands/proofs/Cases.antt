@@ -1,27 +1,31 @@
--- No clause of the demands is empty: accepted lists exist, and so do, for every call, field records in the exact domain. Assumes nothing.
-use mathlib.Core.Path.{◌≡◌, refl, subst}
-use mathlib.Core.Bool.{Bool, true, false, cond}
-use Prim.Native.Nat.{ℕ, ◌<◌}
+-- No clause of the demands is empty: accepted lists exist, and so do, for every call, field records in the exact domain, and a record with a
+-- gap beside the one where it is filled. Assumes nothing.
+use mathlib.Core.Path.{◌≡◌, refl, sym, subst}
+use mathlib.Core.Bool.{Bool, true, false, cond, true≢false}
+use mathlib.Core.List.{List, []}
+use Prim.Native.Nat.{ℕ, zero, suc, ◌<◌}
 use native.Mathlib.Omega.{arith}
 use lib.Count.{ones}
 use lib.Dec.{T, leb, leb→le}
 use lib.IntN.{ℤ, pos, nat_abs, ◌+ℤ◌}
-use lib.Ieee.{of_fields, of_bits}
+use lib.Ieee.{of_fields, of_bits, of_int, to_unsigned, lt, rem, div}
 use lib.Ieee.Scale.{finite}
 use Rattle.integers.specs.Whole.{floor_div}
 use Rattle.integers.proofs.Table.{all-at}
 use Rattle.ecma262.specs.Date.{days_in_year, day_from_year, year_from_time, month_of, date_of, days_before}
 use Rattle.ecma262.specs.Domain.{ExactDay, ExactTime}
-use Rattle.float.specs.Whole.{trunc_z}
+use Rattle.float.specs.Whole.{trunc_z, floor_z}
+use Rattle.float.specs.Rounding.{floor_f, rem_euclid_f}
+use Rattle.calendar.specs.Calendar.{num, hour_from_time_f, min_from_time_f, sec_from_time_f, ms_from_time_f, wrap32}
 use Rattle.little_endian.specs.Bytes.{little_endian, twos_complement}
 use Rattle.zone.specs.Zone.{Accepted, record_at, records, is_zone_list, accepts, decides, offset_at}
 use Rattle.zone.proofs.Rule.{accepts-sound}
 use Rattle.local.specs.Local.{asked_second, offset_of_instant, local_time}
-use Rattle.field_record.specs.FieldRecord.{stands, has_length, has_other_bit, place_of, field_at}
-use Rattle.new_date.specs.Calls.{Call, build, set, bits_of}
+use Rattle.field_record.specs.FieldRecord.{stands, has_length, has_other_bit, place_of, field_at, field_or}
+use Rattle.new_date.specs.Calls.{Call, build, set, bits_of, absent, WrittenIn}
 use Rattle.new_date.specs.declared.Part.TheVariants.{Milliseconds, Seconds, Minutes, Hours, Date, Month, FullYear}
-use Rattle.new_date.specs.Standard.{absent_z, shift_in_z, Finite, Exact, Passes}
-use Rattle.demands.specs.Terms.{zero_list, first_is_one}
+use Rattle.new_date.specs.Standard.{absent_z, argument_z, shift_in_z, Finite, Exact, Passes}
+use Rattle.demands.specs.Terms.{zero_list, first_is_one, minute_alone, minute_and_rest}
 
 pub accepted-lists-exist : Accepted zero_list
 unfolding records record_at little_endian twos_complement is_zone_list accepts
@@ -89,3 +93,24 @@ start false = refl
 pub exact-records-exist : (call : Call) (local : Bool)
     → Passes call local zero_list first_is_one × Exact call (shift_in_z local (records zero_list) (pos 0)) first_is_one
 exact-records-exist call local = (passes call local, subst (λ (t : ℤ). Exact call t first_is_one) (start local) (exact call))
+
+-- ---- a gap, and the value that it stands for written in: at time 0 the minute 30 alone is 00:30:00.000
+filled-in : WrittenIn (set Hours) (num 0) minute_alone minute_and_rest
+unfolding absent field_or field_at place_of little_endian ones of_bits of_fields hour_from_time_f min_from_time_f sec_from_time_f ms_from_time_f floor_f rem_euclid_f wrap32 floor_z of_int to_unsigned lt rem div
+filled-in zero k = (refl, refl)
+filled-in (suc zero) k = (refl, refl)
+filled-in (suc (suc zero)) k = (refl, refl)
+filled-in (suc (suc (suc zero))) k = (refl, refl)
+filled-in (suc (suc (suc (suc bit)))) k = absurd (omega arith)
+
+in-utc : (fields : List ℕ) → has_length fields ≡ true → has_other_bit 4 fields ≡ false → Passes (set Hours) false [] fields
+in-utc fields h b = record { list = λ l. absurd (true≢false (sym l)); filled = h; known = b }
+
+pub gap-filled-exists : Passes (set Hours) false [] minute_alone × Passes (set Hours) false [] minute_and_rest × WrittenIn (set Hours) (num 0) minute_alone minute_and_rest
+unfolding has_length has_other_bit ones
+gap-filled-exists = (in-utc minute_alone refl refl, in-utc minute_and_rest refl refl, filled-in)
+
+-- the full year of a NaN date, which starts from 0, is 1970 where it is absent
+pub absent-year-of-nan : (fields : List ℕ) → stands fields 0 ≡ false → argument_z (set FullYear) (pos 0) fields 0 ≡ pos 1970
+unfolding absent_z days_in_year day_from_year year_from_time
+absent-year-of-nan fields s = rw s refl

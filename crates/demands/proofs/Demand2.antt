@@ -12,6 +12,7 @@
 --   WrittenIn call t gap full  the record full has the arguments of the record gap, each as a field       new_date/specs/Calls
 --   stands, field_at fields i  whether a record has the field of bit i; that field, as f64                field_record/specs/FieldRecord
 --   time_value_of, start_of    the time value of a date's bits, none for row 2; where a setter starts     timevalue/specs/TimeValue, fields/specs/Outcome
+--   shift_in_z, shift_out_z    local: a time shifted by the list in, and out; in UTC the time itself               new_date/specs/Standard
 --   time_value, time_reply     a clipped time as f64, NaN for none; its bits as an answer                 make/specs/Make, fields/specs/Outcome
 --   Accepted zone              an accepted zone list                                                      zone/specs/Zone
 --   Writes form text           the text is "the Date Time String Format as 01 sets it", by its form       ecma262/specs/Format
@@ -25,7 +26,7 @@ use mathlib.Core.Path.{◌≡◌, sym, ap, ◌∙◌}
 use mathlib.Core.Bool.{Bool, true, false, true≢false}
 use mathlib.Core.List.{List, [], ◌++◌}
 use mathlib.Core.Logic.{◌↔◌, ◌⊎◌}
-use Prim.Native.Nat.{ℕ, ◌≤◌}
+use Prim.Native.Nat.{ℕ, ◌≤◌, ◌<◌}
 use native.Mathlib.Omega.{arith}
 use lib.IntN.{ℤ, pos, nat_abs}
 use lib.ListN.{length}
@@ -39,6 +40,7 @@ use Rattle.ecma262.proofs.Range.{clip-inside}
 use Rattle.ecma262.proofs.Texts.{lengths-iso, lengths-utc, lengths-local, length-invalid}
 use Rattle.float.specs.Whole.{IsWhole}
 use Rattle.float.proofs.Whole.{of_int-whole}
+use Rattle.calendar.specs.Calendar.{num}
 use Rattle.calendar.proofs.Whole as whole
 use Rattle.make.specs.Make.{time_value}
 use Rattle.zone.specs.Zone.{Accepted, records}
@@ -51,7 +53,7 @@ use Rattle.answer.specs.Answer.{nan_value, time_bits}
 use Rattle.answer.specs.declared.Refusal.TheVariants.{NoTime}
 use Rattle.std.specs.Prelude.{Some, IsSome, Ok}
 use Rattle.new_date.specs.declared.Part.{Part}
-use Rattle.new_date.specs.declared.Part.TheVariants.{FullYear}
+use Rattle.new_date.specs.declared.Part.TheVariants.{Hours, FullYear}
 use Rattle.new_date.specs.Calls.{Call, build, set, WrittenIn}
 use Rattle.new_date.specs.Standard.{no_field, argument_z, new_date_z, shift_in_z, shift_out_z, value_from_z, Exact, Passes}
 use Rattle.new_date.proofs.NoField.{no-field-exact}
@@ -62,8 +64,9 @@ use Rattle.reader.specs.Outcome.{read_outcome}
 use Rattle.reader.proofs.Denotation.{denotes-unique}
 use Rattle.writer.specs.Outcome.{refused, written}
 use Rattle.writer.specs.Writer.{iso_outcome, utc_outcome, local_outcome}
-use Rattle.demands.specs.Terms.{CalendarAt, CalendarOfYear, built, steps_from, read_number, OfText, NoForm, DenotesOutside, until_suffix, suffix, zero_list, first_is_one}
+use Rattle.demands.specs.Terms.{CalendarAt, CalendarOfYear, built, steps_from, read_number, OfText, NoForm, DenotesOutside, OnlyMinute, MinuteSet, until_suffix, suffix, zero_list, first_is_one, minute_alone, minute_and_rest}
 use Rattle.demands.proofs.Cases as cases
+use Rattle.demands.proofs.Kept as kept
 use Rattle.demands.proofs.Reading as reading
 use Rattle.demands.proofs.Writing as writing
 
@@ -139,7 +142,8 @@ exact-records-exist = cases.exact-records-exist
 pub no-field-is-exact : (first : Part) (local : Bool) (zone : List ℕ) → (local ≡ true → Accepted zone) → (t : ℤ) → Shown t → Passes (set first) local zone no_field × Exact (set first) t no_field
 no-field-is-exact first local zone l t h = (no-field-passes first local zone l, no-field-exact first t h)
 
--- "A gap before a given argument … equals the call with the value just said written in": gap's absent fields are given in full
+-- "A gap before a given argument … equals the call with the value just said written in": full has every field, gap's absent ones by what they
+-- stand for. There are such records
 pub setter-with-gaps-filled : (first : Part) (local : Bool) (zone : List ℕ) (time : ℕ) (gap full : List ℕ) (v : TimeValue) → Passes (set first) local zone gap → Passes (set first) local zone full
     → time_value_of time ≡ Some v → WrittenIn (set first) (start_of local (records zone) v) gap full
     → set_outcome first local zone time gap ≡ set_outcome first local zone time full
@@ -148,6 +152,16 @@ setter-with-gaps-filled first local zone time gap full v p q e w = set-written-i
 pub builder-with-gaps-filled : (local : Bool) (zone gap full : List ℕ) → Passes build local zone gap → Passes build local zone full → WrittenIn build nan gap full
     → build_outcome local zone gap ≡ build_outcome local zone full
 builder-with-gaps-filled = build-written-in
+
+pub gap-filled-exists : Passes (set Hours) false [] minute_alone × Passes (set Hours) false [] minute_and_rest × WrittenIn (set Hours) (num 0) minute_alone minute_and_rest
+gap-filled-exists = cases.gap-filled-exists
+
+-- 02, change request 2: "Cue authors send an hours record with only minutes and expect the hour to remain." In UTC or by the local clock
+pub hour-remains : (local : Bool) (zone : List ℕ) (time : ℕ) (fields : List ℕ) (z : ℤ) (m : ℕ) → Passes (set Hours) local zone fields
+    → IsWhole (of_bits binary64 time) z → InRange z → OnlyMinute fields m → m < 60
+    → (u : ℤ) × MinuteSet (shift_in_z local (records zone) z) u m
+    × (set_outcome Hours local zone time fields ≡ time_reply (time_value (time_clip (shift_out_z local (records zone) u))))
+hour-remains = kept.hour-remains
 
 -- a bare map of 0 is a call like any other: in UTC it gives the time back, locally `utc_t` of `local_time`
 pub no-field-in-utc : (first : Part) (time : ℕ) (z : ℤ) → IsWhole (of_bits binary64 time) z → InRange z → set_outcome first false [] time no_field ≡ Ok (time_bits z)
@@ -177,7 +191,10 @@ pub full-year-of-nan : (local : Bool) (zone : List ℕ) (time : ℕ) (fields : L
 unfolding value_from_z
 full-year-of-nan local zone time fields p n e = set-year-of-nan local zone fields p time n e
 
--- so its absent year is 1970, and with a bare map of 0 its date is that of 0
+-- so an absent year is 1970, and with a bare map of 0 the new date is 0, which a local call takes out by `utc_t`
+pub absent-year-of-nan : (fields : List ℕ) → stands fields 0 ≡ false → argument_z (set FullYear) (pos 0) fields 0 ≡ pos 1970
+absent-year-of-nan = cases.absent-year-of-nan
+
 pub no-field-full-year-of-nan : (local : Bool) (zone : List ℕ) → (local ≡ true → Accepted zone) → (time : ℕ) → of_bits binary64 time ≡ nan
     → set_outcome FullYear local zone time no_field ≡ time_reply (time_value (time_clip (shift_out_z local (records zone) (pos 0))))
 no-field-full-year-of-nan = set-no-year-of-nan

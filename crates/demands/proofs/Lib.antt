@@ -1,4 +1,5 @@
 mod Cases
+mod Kept
 mod Reading
 mod Writing
 pub mod Demand2

@@ -1,6 +1,6 @@
 -- What the theorems of demand 2 (proofs/Demand2.antt) are said with, over the definitions that the contracts cite. Definitions only.
 -- Assumes nothing.
-use Rattle.std.specs.Prelude.{◌≡◌, Bool, List, [], ◌∷◌, ◌++◌, ℕ, ◌≤◌, ◌<◌, ℤ, pos, nat_abs, replicate, Float}
+use Rattle.std.specs.Prelude.{◌≡◌, Bool, true, false, List, [], ◌∷◌, ◌++◌, ℕ, ◌≤◌, ◌<◌, ℤ, pos, nat_abs, replicate, Float}
 use Rattle.ecma262.specs.Date.{time_range, day_of_time, time_within_day, days_in_year, day_from_year, time_from_year, year_from_time, day_within_year, in_leap_year, month_from_time, date_from_time, week_day, hour_from_time, min_from_time, sec_from_time, ms_from_time, make_time, make_day, make_date, make_full_year, time_clip, fields_of}
 use Rattle.ecma262.specs.Format.{Form, Writes}
 use Rattle.ecma262.specs.Texts.{ascii, date_string_of, time_string_of, time_zone_string}
@@ -8,6 +8,7 @@ use Rattle.float.specs.Whole.{IsWhole}
 use Rattle.calendar.specs.Calendar.{day_f, time_within_day_f, days_in_year_f, day_from_year_f, time_from_year_f, year_from_time_f, day_within_year_f, in_leap_year_f, month_from_time_f, date_from_time_f, week_day_f, hour_from_time_f, min_from_time_f, sec_from_time_f, ms_from_time_f}
 use Rattle.make.specs.Make.{time_value}
 use Rattle.zone.specs.Zone.{records}
+use Rattle.field_record.specs.FieldRecord.{stands, field_at}
 use Rattle.local.specs.Local.{offset_of_suffix}
 use Rattle.answer.specs.Answer.{answer_of_time}
 use Rattle.new_date.specs.Calls.{Call}
@@ -49,6 +50,22 @@ built a = make_date (make_day (make_full_year (a 0)) (a 1) (a 2)) (make_time (a 
 abbrev pub steps_from : Call → Bool → List ℕ → ℤ → List ℕ → Float
 steps_from call local zone t fields = time_value (time_clip (shift_out_z local (records zone) (new_date_z call t (argument_z call t fields))))
 
+-- "an hours record with only minutes": the minute m, which is bit 1
+pub record OnlyMinute (fields : List ℕ) (m : ℕ) : Type 0 where
+  pub hour : stands fields 0 ≡ false
+  pub minute : stands fields 1 ≡ true
+  pub is : IsWhole (field_at fields 1) (pos m)
+  pub second : stands fields 2 ≡ false
+  pub ms : stands fields 3 ≡ false
+
+-- u is t with the minute m: the day, "the hour", the second and the millisecond "remain"
+pub record MinuteSet (t u : ℤ) (m : ℕ) : Type 0 where
+  pub day : day_of_time u ≡ day_of_time t
+  pub hour : hour_from_time u ≡ hour_from_time t
+  pub minute : min_from_time u ≡ m
+  pub second : sec_from_time u ≡ sec_from_time t
+  pub ms : ms_from_time u ≡ ms_from_time t
+
 -- ---- the reader
 
 -- the number that it answers
@@ -86,3 +103,17 @@ zero_list = replicate 12 0
 -- a field record whose one field is the first argument, 1: bit 0 and the f64 of 1
 abbrev pub first_is_one : List ℕ
 first_is_one = 1 ∷ 0 ∷ 0 ∷ 0 ∷ 0 ∷ 0 ∷ 0 ∷ 0xF0 ∷ 0x3F ∷ []
+
+-- the f64 of 30, and of 0, low byte first
+abbrev pub thirty : List ℕ
+thirty = 0 ∷ 0 ∷ 0 ∷ 0 ∷ 0 ∷ 0 ∷ 0x3E ∷ 0x40 ∷ []
+
+abbrev pub nought : List ℕ
+nought = replicate 8 0
+
+-- an hours record with the minute 30 alone, and the one that it stands for at time 0: 00:30:00.000
+abbrev pub minute_alone : List ℕ
+minute_alone = 2 ∷ thirty
+
+abbrev pub minute_and_rest : List ℕ
+minute_and_rest = 15 ∷ nought ++ thirty ++ nought ++ nought

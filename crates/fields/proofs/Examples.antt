@@ -75,7 +75,7 @@ rows =
     set Milliseconds false [] 0x419578e324000000 (fields_of 0 []) 0 0x419578e324000000 ∷  -- in UTC it gives the time back
     set Date false [] 0x419578e324000000 (fields_of 0 []) 0 0x419578e324000000 ∷  -- the date remains
     set FullYear false [] 0x7ff8000000000000 (fields_of 0 []) 0 0x0 ∷  -- the full year of a NaN date is 1970
-    set FullYear true marked 0x7ff8000000000000 (fields_of 0 []) 0 0xc15b774000000000 ∷  -- and its date is shifted out
+    set FullYear true marked 0x7ff8000000000000 (fields_of 0 []) 0 0xc15b774000000000 ∷  -- and locally 0 is shifted out: -7200000
     set Hours false [] 0x7ff8000000000000 (fields_of 0 []) 0 0x7ff8000000000000 ∷  -- any other setter of NaN is NaN
     set Hours false [] 0x418a524800000000 (fields_of 1 (0x7ff8000000000000 ∷ [])) 0 0x7ff8000000000000 ∷  -- a NaN first field clears the date
     set FullYear false [] 0x4278df2292800000 (fields_of 5 (0x409f9c0000000000 ∷ 0x3ff0000000000000 ∷ [])) 0 0x427860a45ec00000 ∷  -- a gap keeps its present value: of 2024-02-29, year 2023 and date 1: 2023-02-01

@@ -1,5 +1,6 @@
 -- The promises of the builder and the setters, said of their whole outcomes: in the exact domain the answer is the standard's own steps in
--- whole numbers; outside it a field that is not finite gives NaN; and every answer is a refusal or a time value. Assumes nothing.
+-- whole numbers; outside it a field that is not finite gives NaN; a gap is the call with its value written in, and a setter of no field gives
+-- the date that it starts from; and every answer is a refusal or a time value. Assumes nothing.
 use mathlib.Core.Path.{◌≡◌, refl, sym, ap, ◌∙◌, subst}
 use mathlib.Core.Bool.{Bool, true, false, not, cond, ◌&&◌}
 use mathlib.Core.List.{List, []}
@@ -36,7 +37,7 @@ use Rattle.fields.proofs.Rows.{start-whole}
 use Rattle.new_date.proofs.Exact.{value-exact}
 use Rattle.new_date.proofs.NoField.{no-field-exact, no-field-value}
 use Rattle.new_date.proofs.WrittenIn.{written-in}
-use Rattle.new_date.proofs.Values.{from-time-value, given-nan, has-first, year-nan, nan-date, year-of-nan}
+use Rattle.new_date.proofs.Values.{from-time-value, given-nan, has-first, no-year-nan, nan-date, year-of-nan}
 
 -- ---- past the rows
 list-row : (local : Bool) (zone : List ℕ) → (local ≡ true → Accepted zone) → (local && not (accepts zone)) ≡ false
@@ -122,7 +123,7 @@ set-no-field first local zone l time z w r =
     set-exact first local zone no_field (no-field-passes first local zone l) time z w r (no-field-exact first start s.1)
     ∙ ap (λ v. time_reply (time_value v)) (no-field-value first local (records zone) start)
 
--- of a NaN date the full year is 1970, and the date is 0
+-- the full year of a NaN date starts from 0: with no field given the new date is 0, and a local call takes it out by `utc_t`
 pub set-no-year-of-nan : (local : Bool) (zone : List ℕ) → (local ≡ true → Accepted zone) → (time : ℕ) → of_bits binary64 time ≡ nan
     → set_outcome FullYear local zone time no_field ≡ time_reply (time_value (time_clip (shift_out_z local (records zone) (pos 0))))
 set-no-year-of-nan local zone l time n =
@@ -147,7 +148,7 @@ module _ (local : Bool) (zone fields : List ℕ) (p : Passes build local zone fi
   build-field-nan i h s e = build-value ∙ ap time_reply (given-nan build local (records zone) nan fields i h s e)
 
   pub build-first-nan : stands fields 0 ≡ false → build_outcome local zone fields ≡ time_reply nan
-  build-first-nan s = build-value ∙ ap time_reply (year-nan local (records zone) nan fields s)
+  build-first-nan s = build-value ∙ ap time_reply (no-year-nan local (records zone) nan fields s)
 
 pub build-written-in : (local : Bool) (zone gap full : List ℕ) → Passes build local zone gap → Passes build local zone full → WrittenIn build nan gap full
     → build_outcome local zone gap ≡ build_outcome local zone full

@@ -105,7 +105,7 @@ module _ {t : Float} {z : ℤ} (w : IsWhole t z) (h : Shown z) where
   zero_field : IsField (num 0) (pos 0)
   zero_field = field-int (pos 0) (lit≤ tt)
 
-  -- the builder's year stands for no number
+  -- an absent year of the builder stands for no number
   absent-field : (call : Call) (i : ℕ) → i < bits_of call → (call ≡ build → i ≡ 0 → ⊥) → IsField (get_or (absent call t) i nan) (get_or (absent_z call z) i (pos 0))
   unfolding absent absent_z
   absent-field build zero k y = absurd (y refl refl)

@@ -10,9 +10,9 @@ use lib.IntN.{ℤ, pos, ◌+ℤ◌}
 use Rattle.integers.specs.Whole.{floor_div}
 use Rattle.ecma262.specs.Date.{time_within_day, year_from_time, month_from_time, date_from_time, hour_from_time, min_from_time, sec_from_time, ms_from_time, make_day, make_date, time_clip}
 use Rattle.ecma262.specs.Domain.{ExactDay, ExactTime, Shown}
-use Rattle.integers.proofs.Int.{ints, abs-out, mod-small, at, ◌+ᵗ◌, ◌/ᵗ◌, read}
+use Rattle.integers.proofs.Int.{ints, abs-out, at, ◌+ᵗ◌, ◌/ᵗ◌, read}
 use Rattle.ecma262.proofs.Clock.{make-date-of, make-date-clock}
-use Rattle.ecma262.proofs.Fields.{make-day-of, month-range, date-small}
+use Rattle.ecma262.proofs.Fields.{fields-valid, make-day-of, month-range, date-small}
 use Rattle.ecma262.proofs.Range.{year-range}
 use Rattle.zone.specs.Zone.{Record}
 use Rattle.new_date.specs.Calls.{set}
@@ -23,12 +23,8 @@ use Rattle.new_date.specs.Standard.{no_field, absent_z, argument_z, new_date_z, 
 -- ---- the exact domain
 clock-bounds : (t : ℤ) → ExactTime (pos (hour_from_time t)) (pos (min_from_time t)) (pos (sec_from_time t)) (pos (ms_from_time t))
 clock-bounds t =
-    record {
-      hour = omega (arith, mod-small (floor_div t 3600000) 23);
-      minute = omega (arith, mod-small (floor_div t 60000) 59);
-      second = omega (arith, mod-small (floor_div t 1000) 59);
-      milli = omega (arith, mod-small t 999);
-    }
+    let v = fields-valid t in
+    record { hour = omega (arith, v.hour-ok); minute = omega (arith, v.minute-ok); second = omega (arith, v.second-ok); milli = omega (arith, v.ms-ok) }
 
 day-bounds : (t : ℤ) → Shown t → ExactDay (year_from_time t) (pos (month_from_time t)) (date_from_time t)
 day-bounds t h =
@@ -49,7 +45,7 @@ bounds Month t h = day-bounds t h
 bounds FullYear t h = day-bounds t h
 
 pub no-field-exact : (first : Part) (t : ℤ) → Shown t → Exact (set first) t no_field
-no-field-exact first t h = record { numbers = record { year = λ e. absurd (cc (e)); each = λ bit k s. cc (zero-div (2 ^ bit), s) }; bounds = bounds first t h }
+no-field-exact first t h = record { numbers = record { year = λ e. cc e; each = λ bit k s. cc (zero-div (2 ^ bit), s) }; bounds = bounds first t h }
 
 -- ---- the standard's steps
 by-day : (t : ℤ) → make_date (make_day (year_from_time t) (pos (month_from_time t)) (date_from_time t)) (pos (time_within_day t)) ≡ t

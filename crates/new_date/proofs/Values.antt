@@ -116,6 +116,7 @@ pub given-nan : (call : Call) (local : Bool) (list : List Record) (t : Float) (f
 unfolding field_or
 given-nan call local list t fields i h s e = argument-nan call local list t fields i h (rw s e)
 
+-- a setter has a first field
 pub has-first : (first : Part) → 0 < bits_of (set first)
 has-first Milliseconds = omega arith
 has-first Seconds = omega arith
@@ -126,9 +127,9 @@ has-first Month = omega arith
 has-first FullYear = omega arith
 
 -- and an absent year of the builder is NaN
-pub year-nan : (local : Bool) (list : List Record) (t : Float) (fields : List ℕ) → stands fields 0 ≡ false → value_from build local list t fields ≡ nan
+pub no-year-nan : (local : Bool) (list : List Record) (t : Float) (fields : List ℕ) → stands fields 0 ≡ false → value_from build local list t fields ≡ nan
 unfolding field_or absent
-year-nan local list t fields s = argument-nan build local list t fields 0 (omega arith) (rw s refl)
+no-year-nan local list t fields s = argument-nan build local list t fields 0 (omega arith) (rw s refl)
 
 -- ---- a NaN date: "Every setter but `set_full_year` gives NaN for NaN". Its day and its time within the day are NaN.
 day-of-nan : finite (day_f nan) ≡ false

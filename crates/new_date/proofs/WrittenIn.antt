@@ -24,7 +24,7 @@ same-date (set FullYear) t a b h = rw (h 0 (lit< tt), h 1 (lit< tt), h 2 (lit< t
 -- THE LAW: a record with a gap and the one where it is filled have one value
 pub written-in : (call : Call) (local : Bool) (list : List Record) (t : Float) (gap full : List ℕ) → WrittenIn call t gap full → value_from call local list t gap ≡ value_from call local list t full
 unfolding value_from new_date_of field_or
-written-in call local list t gap full w = ap (value_out local list) (same-date call t (argument call t gap) (argument call t full) (λ bit k. same bit k))
+written-in call local list t gap full w = ap (value_out local list) (same-date call t (argument call t gap) (argument call t full) same)
   where
     same : (bit : ℕ) → bit < bits_of call → argument call t gap bit ≡ argument call t full bit
     same bit k = let h = w bit k in rw (h.0, h.1)

@@ -59,7 +59,8 @@ absent (set FullYear) t = present FullYear (or_zero t) ∷ present Month (or_zer
 abbrev pub argument : Call → Float → List ℕ → ℕ → Float
 argument call t fields bit = field_or fields bit (get_or (absent call t) bit nan)
 
--- "A gap … equals the call with the value just said written in": full has every field of the call, and each is the argument of gap
+-- "A gap … equals the call with the value just said written in": full has every field of the call, and each is the argument of gap. (Two records
+-- with some of the gaps filled are each equal to the full one.)
 abbrev pub WrittenIn : Call → Float → List ℕ → List ℕ → Type 0
 WrittenIn call t gap full = (bit : ℕ) → bit < bits_of call → (stands full bit ≡ true) × (field_at full bit ≡ argument call t gap bit)
 

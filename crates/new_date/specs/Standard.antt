@@ -13,7 +13,7 @@ use Rattle.field_record.specs.FieldRecord.{stands, has_length, has_other_bit, fi
 use Rattle.new_date.specs.Calls.{Call, build, set, bits_of}
 use Rattle.new_date.specs.declared.Part.TheVariants.{Milliseconds, Seconds, Minutes, Hours, Date, Month, FullYear}
 
--- What an absent field stands for. The builder's year has no such number: it stands for NaN, and the law below asks for it to be given.
+-- What an absent field stands for. The builder's year has no such number: it stands for NaN, and `Finite` below asks for it to be given.
 unfoldable pub absent_z : Call → ℤ → List ℤ
 absent_z build t = pos 0 ∷ pos 0 ∷ pos 1 ∷ pos 0 ∷ pos 0 ∷ pos 0 ∷ pos 0 ∷ []
 absent_z (set Milliseconds) t = pos (ms_from_time t) ∷ []

@@ -1,5 +1,6 @@
-//! docs/DIFFERENCES.md, row by row, where a row is a call: the original must show what it says. The
-//! stored sample takes every one of them.
+//! docs/DIFFERENCES.md, row by row, where a row is a call: the original must show what it says. An
+//! absent first field is written into its call, which shows what the port says. The stored sample
+//! takes every one of them.
 
 use super::Family;
 use super::marked::{Gives, record, row};
