@@ -9,12 +9,13 @@ use native.Mathlib.Omega.{arith}
 use lib.Dec.{eqb}
 use lib.ListN.{length, length-append}
 use borrow.Author.Tests.{eqb-true, eq-eqb}
-use Rattle.ecma262.specs.Format.{Year, Date, Time, Zone, Form, prints, prints_year, prints_date, prints_time, prints_zone, time_fields, TimeBounds, Bounds, Writes}
+use Rattle.ecma262.specs.Format.{Year, Date, Time, Zone, Form, prints, prints_year, prints_date, prints_time, prints_zone, time_fields, DecimalsBounds, TimeBounds, Bounds, Writes}
 use Rattle.ecma262.specs.Format.Year.{four, six}
 use Rattle.ecma262.specs.Format.Date.{toYear, toMonth, toDay}
 use Rattle.ecma262.specs.Format.Time.{toSecond, toDecimals}
 use Rattle.ecma262.specs.Format.Zone.{absent, zulu, toHour}
 use Rattle.ecma262.specs.Format.Form.{date, timed}
+use Rattle.ecma262.proofs.Digits.{length_digits}
 use Rattle.parser.specs.declared.Fault.TheVariants.{Range}
 use Rattle.parser.specs.Reading.{ok, fault, after, read_year, read_date, read_time, read_zone, time_allowed, after_date, ending, time_part, rest, read}
 use Rattle.parser.proofs.Stages.{on-after, Clock, year-read, date-read, time-read, zone-read, year-written, date-written, time-written, zone-written, zone-start}
@@ -66,7 +67,7 @@ time-bounds t c e = record {
   hour-to = c.hour-to;
   minute-to = c.minute-to;
   second-to = c.second-to;
-  ms-to = c.ms-to;
+  decimals-ok = c.decimals-ok;
   midnight = midnight-read t e;
 }
 
@@ -94,7 +95,7 @@ read-printed text f e =
 -- ---- a text that a form prints is read as that form
 
 clock : (t : Time) → TimeBounds t → Clock t
-clock t b = record { hour-to = b.hour-to; minute-to = b.minute-to; second-to = b.second-to; ms-to = b.ms-to }
+clock t b = record { hour-to = b.hour-to; minute-to = b.minute-to; second-to = b.second-to; decimals-ok = b.decimals-ok }
 
 printed-form : (f : Form) → Bounds f → read (prints f) ≡ ok f []
 unfolding after read rest time_part ending
@@ -106,7 +107,7 @@ printed-form (timed y d t z) b =
     rw (
       year-written y (prints_date d ++ (84 ∷ (prints_time t ++ prints_zone z))) b.0,
       date-written d (84 ∷ (prints_time t ++ prints_zone z)) b.1 (λ e. omega arith),
-      time-written t (prints_zone z) (clock t B) n.0 n.1,
+      time-written t (prints_zone z) (clock t B) n.0 n.1 n.2,
       zone-written z b.3,
       midnight-written t B.midnight,
     )
@@ -142,10 +143,10 @@ date-length toYear = omega arith
 date-length (toMonth m) = omega arith
 date-length (toDay m d) = omega arith
 
-time-length : (t : Time) → length (prints_time t) ≤ 12
-time-length (Time.toMinute h m) = omega arith
-time-length (toSecond h m s) = omega arith
-time-length (toDecimals h m s ms) = omega arith
+time-length : (t : Time) → DecimalsBounds t → length (prints_time t) ≤ 12
+time-length (Time.toMinute h m) b = omega arith
+time-length (toSecond h m s) b = omega arith
+time-length (toDecimals h m s places d) b = omega (arith, length_digits places d, b.1)
 
 zone-length : (z : Zone) → length (prints_zone z) ≤ 6
 zone-length absent = omega arith
@@ -153,14 +154,14 @@ zone-length zulu = omega arith
 zone-length (toHour n h) = omega arith
 zone-length (Zone.toMinute n h m) = omega arith
 
-pub prints-length : (f : Form) → length (prints f) ≤ 32
-prints-length (date y d) = simp length-append (omega (arith, year-length y, date-length d))
-prints-length (timed y d t z) = simp length-append (omega (arith, year-length y, date-length d, time-length t, zone-length z))
+pub prints-length : (f : Form) → Bounds f → length (prints f) ≤ 32
+prints-length (date y d) b = simp length-append (omega (arith, year-length y, date-length d))
+prints-length (timed y d t z) b = simp length-append (omega (arith, year-length y, date-length d, time-length t b.2.decimals-ok, zone-length z))
 
 -- no accepted text is longer than 32 bytes
 pub accepted-length : (text : List ℕ) (f : Form) {left : List ℕ} → read text ≡ ok f left → length text ≤ 32
-accepted-length text f e = rw (sym (read-printed text f e).printed) (prints-length f)
+accepted-length text f e = let w = read-printed text f e in rw (sym w.printed) (prints-length f w.bounds)
 
 -- and one is as long: +000000-01-01T00:00:00.000+00:00
-longest : length (prints (timed (six false 0) (toDay 1 1) (toDecimals 0 0 0 0) (Zone.toMinute false 0 0))) ≡ 32
+longest : length (prints (timed (six false 0) (toDay 1 1) (toDecimals 0 0 0 3 0) (Zone.toMinute false 0 0))) ≡ 32
 longest = refl

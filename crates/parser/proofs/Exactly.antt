@@ -41,13 +41,13 @@ date-value (ToDay m d) = refl
 time_value : format.Time → Time
 time_value (format.Time.toMinute h m) = T.ToMinute h m
 time_value (format.Time.toSecond h m s) = T.ToSecond h m s
-time_value (format.Time.toDecimals h m s ms) = T.ToDecimals h m s ms
+time_value (format.Time.toDecimals h m s places decimals) = T.ToDecimals h m s places decimals
 
 time-value : (t : Time) → time_value (as_time t) ≡ t
 unfolding time_value
 time-value (T.ToMinute h m) = refl
 time-value (T.ToSecond h m s) = refl
-time-value (T.ToDecimals h m s ms) = refl
+time-value (T.ToDecimals h m s places decimals) = refl
 
 zone_value : format.Zone → Zone
 zone_value format.Zone.absent = Z.Absent

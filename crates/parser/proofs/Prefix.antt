@@ -7,6 +7,7 @@ use Prim.Native.Nat.{ℕ, zero, suc, ◌+◌, ◌-◌, ◌*◌, ◌≤◌, ◌<�
 use native.Mathlib.Omega.{arith}
 use native.Mathlib.Decide.{dec_le}
 use lib.Dec.{leb, eqb}
+use borrow.Author.Tests.{eq-eqb}
 use lib.ListN.{length, take, drop, take-append-drop}
 use lib.Seq.{take_all, length-take-le}
 use Rattle.ecma262.specs.Format.{Year, Date, Time, Zone, Form}
@@ -15,7 +16,7 @@ use Rattle.ecma262.specs.Format.Date.{toYear, toMonth, toDay}
 use Rattle.ecma262.specs.Format.Time.{toSecond, toDecimals}
 use Rattle.ecma262.specs.Format.Zone.{absent, zulu, toHour}
 use Rattle.parser.specs.declared.Fault.TheVariants.{Bad, Range}
-use Rattle.parser.specs.Reading.{Out, ok, fault, Reader, bind, after, give, choose, byte, is_digit, digits_after, within, field, signed_year, read_year, read_day, read_date, read_decimals, read_second, read_time, read_offset_minute, read_offset, read_zone, after_date, ending, time_part, rest, read}
+use Rattle.parser.specs.Reading.{Out, ok, fault, Reader, Number, number, bind, after, give, choose, byte, is_digit, digits_after, digits_upto, no_digit, all_of, all_digits, within, field, signed_year, read_year, read_day, read_date, decimals_of, read_decimals, read_second, read_time, read_offset_minute, read_offset, read_zone, after_date, ending, time_part, rest, read}
 
 -- an outcome, with t after what is left
 abbrev longer : {A : Type 0} → List ℕ → Out A → Out A
@@ -100,32 +101,54 @@ byte-within b = record { same = same; left = left }
         pick true = omega arith
         pick false = tt
 
-digits-within : (n v : ℕ) → Within n (digits_after n v)
-unfolding digits_after
-digits-within zero v = record { same = λ s t h. refl; left = λ s. omega arith }
-digits-within (suc n) v = record { same = same (λ w. digits-within n w); left = left (λ w. digits-within n w) }
+-- a run of digits, and what k makes of it: k may look at the byte behind it where the run is not at its end
+digits-within : {A : Type 0} (n v count : ℕ) (k : Number → Reader A) → ((u : ℕ) → Within 0 (k (number u (count + n)))) → ((u c : ℕ) → c < count + n → Within 1 (k (number u c)))
+    → Within n (after (digits_after n v count) k)
+unfolding after digits_after
+digits-within zero v count k full part = let e : count + 0 ≡ count = omega arith in rw e at (full v)
+digits-within {A} (suc n) v count k full part =
+    let e : count + suc n ≡ count + 1 + n = omega arith in
+    let more : (w : ℕ) → Within n (after (digits_after n w (count + 1)) k) = λ w. digits-within n w (count + 1) k (rw e at full) (rw e at part) in
+    record { same = same more; left = left more }
   where
-    same : ((w : ℕ) → Within n (digits_after n w)) → (s t : List ℕ) → suc n ≤ length s → digits_after (suc n) v (s ++ t) ≡ longer t (digits_after (suc n) v s)
+    ends : Within 1 (k (number v count))
+    ends = part v count (omega arith)
+
+    same : ((w : ℕ) → Within n (after (digits_after n w (count + 1)) k)) → (s t : List ℕ) → suc n ≤ length s → after (digits_after (suc n) v count) k (s ++ t) ≡ longer t (after (digits_after (suc n) v count) k s)
     same more [] t h = absurd (omega arith)
     same more (b ∷ s) t h = pick (is_digit b)
       where
         w : ℕ
         w = 10 * v + (b - 48)
 
-        pick : (x : Bool) → cond x (digits_after n w (s ++ t)) (fault Bad) ≡ longer t (cond x (digits_after n w s) (fault Bad))
+        pick : (x : Bool) → bind (cond x (digits_after n w (count + 1) (s ++ t)) (ok (number v count) (b ∷ (s ++ t)))) k
+            ≡ longer t (bind (cond x (digits_after n w (count + 1) s) (ok (number v count) (b ∷ s))) k)
         pick true = (more w).same s t (omega arith)
-        pick false = refl
+        pick false = ends.same (b ∷ s) t (omega arith)
 
-    left : ((w : ℕ) → Within n (digits_after n w)) → (s : List ℕ) → Leaves (suc n) s (digits_after (suc n) v s)
-    left more [] = tt
+    left : ((w : ℕ) → Within n (after (digits_after n w (count + 1)) k)) → (s : List ℕ) → Leaves (suc n) s (after (digits_after (suc n) v count) k s)
+    left more [] = looser 1 (suc n) [] [] (k (number v count) []) (omega arith) (ends.left [])
     left more (b ∷ s) = pick (is_digit b)
       where
         w : ℕ
         w = 10 * v + (b - 48)
 
-        pick : (x : Bool) → Leaves (suc n) (b ∷ s) (cond x (digits_after n w s) (fault Bad))
-        pick true = looser n (suc n) s (b ∷ s) (digits_after n w s) (omega arith) ((more w).left s)
-        pick false = tt
+        pick : (x : Bool) → Leaves (suc n) (b ∷ s) (bind (cond x (digits_after n w (count + 1) s) (ok (number v count) (b ∷ s))) k)
+        pick true = looser n (suc n) s (b ∷ s) (after (digits_after n w (count + 1)) k s) (omega arith) ((more w).left s)
+        pick false = looser 1 (suc n) (b ∷ s) (b ∷ s) (k (number v count) (b ∷ s)) (omega arith) (ends.left (b ∷ s))
+
+-- a reader that reads nothing, or is at fault by whether the text ends
+judges-within : {A : Type 0} (x : Bool) (a : A) → Within 1 (λ s. cond x (ok a s) (fault (no_digit s)))
+judges-within x a = record { same = same x; left = left x }
+  where
+    same : (x : Bool) (s t : List ℕ) → 1 ≤ length s → cond x (ok a (s ++ t)) (fault (no_digit (s ++ t))) ≡ longer t (cond x (ok a s) (fault (no_digit s)))
+    same x [] t h = absurd (omega arith)
+    same true (b ∷ s) t h = refl
+    same false (b ∷ s) t h = refl
+
+    left : (x : Bool) (s : List ℕ) → Leaves 1 s (cond x (ok a s) (fault (no_digit s)))
+    left true s = omega arith
+    left false s = tt
 
 -- a test that reads nothing
 bounds-within : (low high v : ℕ) → Within 0 (within low high v)
@@ -157,8 +180,19 @@ signed-within false y = record { same = λ s t h. refl; left = λ s. omega arith
 
 -- ---- the stages
 
-number-within : {A : Type 0} (n i : ℕ) (k : ℕ → Reader A) → ((v : ℕ) → Within i (k v)) → Within (n + i) (after (digits_after n 0) k)
-number-within n i k K = after-within n i (digits_after n 0) k (digits-within n 0) K
+all-within : (n : ℕ) → Within n (all_digits n)
+unfolding all_of
+all-within n = digits-within n 0 0 (all_of n) (λ u. let e : 0 + n ≡ n = omega arith in rw e (full u)) (λ u c l. judges-within (eqb c n) u)
+  where
+    full : (u : ℕ) → Within 0 (all_of n (number u n))
+    full u = record { same = λ s t h. rw (eq-eqb n n refl); left = λ s. rw (eq-eqb n n refl) (omega arith) }
+
+number-within : {A : Type 0} (n i : ℕ) (k : ℕ → Reader A) → ((v : ℕ) → Within i (k v)) → Within (n + i) (after (all_digits n) k)
+number-within n i k K = after-within n i (all_digits n) k (all-within n) K
+
+decimals-within : (h m s : ℕ) → Within 3 (after (digits_upto 3) (decimals_of h m s))
+unfolding decimals_of give
+decimals-within h m s = digits-within 3 0 0 (decimals_of h m s) (λ u. give-within (toDecimals h m s 3 u)) (λ u c l. judges-within (leb 1 c) (toDecimals h m s c u))
 
 field-within : {A : Type 0} (low high i : ℕ) (k : ℕ → Reader A) → ((v : ℕ) → Within i (k v)) → Within (2 + i) (after (field low high) k)
 field-within low high i k K = after-within 2 i (field low high) k (number-within 2 0 (within low high) (bounds-within low high)) K
@@ -182,7 +216,7 @@ unfolding read_time read_second read_decimals
 time-within =
     field-within 0 24 10 _ λ h. after-within 1 9 (byte 58) _ (byte-within 58) λ _. field-within 0 59 7 _ λ m.
     choose-within 7 6 0 58 _ _
-    (field-within 0 59 4 _ (λ s. choose-within 4 3 0 46 _ _ (number-within 3 0 _ (λ ms. give-within (toDecimals h m s ms))) (give-within (toSecond h m s)) (omega arith) (omega arith)))
+    (field-within 0 59 4 _ (λ s. choose-within 4 3 0 46 _ _ (decimals-within h m s) (give-within (toSecond h m s)) (omega arith) (omega arith)))
     (give-within (Time.toMinute h m)) (omega arith) (omega arith)
 
 offset-within : (n : Bool) → Within 5 (read_offset n)

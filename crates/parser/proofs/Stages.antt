@@ -1,21 +1,21 @@
 -- Each stage reads exactly what its part of a form prints, within its bounds: what was read is printed before what is left, and what is
 -- printed is read. Assumes nothing.
-use mathlib.Core.Path.{◌≡◌, refl, ap, ◌∙◌}
+use mathlib.Core.Path.{◌≡◌, refl, sym, ap, ◌∙◌}
 use mathlib.Core.Bool.{Bool, true, false, cond}
 use mathlib.Core.List.{List, [], ◌∷◌, ◌++◌}
 use Prim.Native.Nat.{ℕ, ◌^◌, ◌≤◌, ◌<◌}
 use native.Mathlib.Omega.{arith}
 use lib.Dec.{eqb, leb}
-use borrow.Author.Tests.{eqb-true, eqb-false, eq-eqb, ne_eqb, leb-true}
+use borrow.Author.Tests.{eqb-true, eqb-false, eq-eqb, ne_eqb, le-leb, leb-true}
 use Rattle.ecma262.specs.Digits.{digits}
-use Rattle.ecma262.specs.Format.{Year, Date, Time, Zone, sign, prints_year, prints_date, prints_time, prints_zone, time_fields, YearBounds, DateBounds, ZoneBounds}
+use Rattle.ecma262.specs.Format.{Year, Date, Time, Zone, sign, prints_year, prints_date, prints_time, prints_zone, time_fields, YearBounds, DateBounds, DecimalsBounds, ZoneBounds}
 use Rattle.ecma262.specs.Format.Year.{four, six}
 use Rattle.ecma262.specs.Format.Date.{toYear, toMonth, toDay}
 use Rattle.ecma262.specs.Format.Time.{toSecond, toDecimals}
 use Rattle.ecma262.specs.Format.Zone.{absent, zulu, toHour}
 use Rattle.parser.specs.declared.Fault.TheVariants.{Bad, Range}
-use Rattle.parser.specs.Reading.{Out, ok, fault, Reader, bind, after, give, choose, byte, digits_after, within, field, signed_year, read_year, read_day, read_date, read_decimals, read_second, read_time, read_offset_minute, read_offset, read_zone}
-use Rattle.parser.proofs.Numbers.{Number, number_read, number-written, Field, field-written}
+use Rattle.parser.specs.Reading.{Out, ok, fault, Reader, Number as Taken, number, bind, after, give, choose, byte, digits_upto, no_digit, all_digits, within, field, signed_year, read_year, read_day, read_date, decimals_of, read_decimals, read_second, read_time, read_offset_minute, read_offset, read_zone}
+use Rattle.parser.proofs.Numbers.{Number, NotDigit, upto_read, upto-written, number_read, number-written, Field, field-written}
 
 -- ---- what a step read. Each takes what follows of it to any conclusion C
 
@@ -69,8 +69,8 @@ module _ {A C : Type 0} {s u : List ℕ} {a : A} where
       go [] h e = cc
       go (c ∷ t) h e = pick c t h (eqb c b) refl e
 
-  on-number : (n : ℕ) (k : ℕ → Reader A) → after (digits_after n 0) k s ≡ ok a u → ((v : ℕ) (t : List ℕ) → Number n v s t → k v t ≡ ok a u → C) → C
-  on-number n k e then = on-after (digits_after n 0) k e (λ v t h g. then v t (number_read n h) g)
+  on-number : (n : ℕ) (k : ℕ → Reader A) → after (all_digits n) k s ≡ ok a u → ((v : ℕ) (t : List ℕ) → Number n v s t → k v t ≡ ok a u → C) → C
+  on-number n k e then = on-after (all_digits n) k e (λ v t h g. then v t (number_read n h) g)
 
 field-read : (low high : ℕ) {s t : List ℕ} {v : ℕ} → field low high s ≡ ok v t → Field low high v s t
 field-read low high {s} {t} {v} e =
@@ -107,7 +107,7 @@ year-read s y t e =
     (λ e₁. on-choose 45 _ _ e₁ (λ r q e₂. go true r q e₂)
     (λ e₂. on-number 4 _ e₂ λ v r n e₃. on-give (four v) e₃ λ p q. part prints_year YearBounds (four v) p (omega (arith, n.small)) (n.word ∙ rw q)))
   where
-    go : (n : Bool) (r : List ℕ) → s ≡ sign n ∷ r → after (digits_after 6 0) (signed_year n) r ≡ ok y t → Part prints_year YearBounds s y t
+    go : (n : Bool) (r : List ℕ) → s ≡ sign n ∷ r → after (all_digits 6) (signed_year n) r ≡ ok y t → Part prints_year YearBounds s y t
     go n r q e =
         on-number 6 _ e λ v u m e₁.
         let x = signed-read n v m.small e₁ in
@@ -129,7 +129,22 @@ pub record Clock (t : Time) : Type 0 where
   pub hour-to : (time_fields t).hour ≤ 24
   pub minute-to : (time_fields t).minute ≤ 59
   pub second-to : (time_fields t).second ≤ 59
-  pub ms-to : (time_fields t).ms ≤ 999
+  pub decimals-ok : DecimalsBounds t
+
+-- one to three digits after the point
+on-decimals : {C : Type 0} (h m sc : ℕ) {s t : List ℕ} {x : Time} → after (digits_upto 3) (decimals_of h m sc) s ≡ ok x t
+    → ((places d : ℕ) → DecimalsBounds (toDecimals h m sc places d) → x ≡ toDecimals h m sc places d → s ≡ digits places d ++ t → C) → C
+unfolding decimals_of
+on-decimals {C} h m sc {s} {t} {x} e then = on-after (digits_upto 3) (decimals_of h m sc) e read
+  where
+    pick : (v count : ℕ) (u : List ℕ) → (count ≤ 3) × Number count v s u → (z : Bool) → leb 1 count ≡ z → cond z (ok (toDecimals h m sc count v) u) (fault (no_digit u)) ≡ ok x t → C
+    pick v count u n true g e =
+        let q : u ≡ t = cc in
+        then count v (leb-true 1 count g, n.0, n.1.small) (cc) (n.1.word ∙ rw q)
+    pick v count u n false g e = cc
+
+    read : (n : Taken) (u : List ℕ) → digits_upto 3 s ≡ ok n u → decimals_of h m sc n u ≡ ok x t → C
+    read (number v count) u h e = pick v count u (upto_read 3 h) (leb 1 count) refl e
 
 pub time-read : (s : List ℕ) (x : Time) (t : List ℕ) → read_time s ≡ ok x t → Part prints_time Clock s x t
 unfolding read_time read_second read_decimals
@@ -140,13 +155,17 @@ time-read s x t e =
     on-choose 58 _ _ e₃
     (λ r₃ q₃ e₄. on-field 0 59 _ e₄ λ sc r₄ _ ls q₄ e₅.
     on-choose 46 _ _ e₅
-    (λ r₅ q₅ e₆. on-number 3 _ e₆ λ ms r₆ n e₇. on-give (toDecimals h m sc ms) e₇ λ p q₇.
-    part prints_time Clock (toDecimals h m sc ms) p (record { hour-to = lh; minute-to = lm; second-to = ls; ms-to = omega (arith, n.small) })
-    (rw (q, q₁, q₂, q₃, q₄, q₅, n.word, q₇)))
+    (λ r₅ q₅ e₆. on-decimals h m sc e₆ λ places d b p w.
+    part prints_time Clock (toDecimals h m sc places d) p (record { hour-to = lh; minute-to = lm; second-to = ls; decimals-ok = b })
+    (rw (q, q₁, q₂, q₃, q₄, q₅, w)))
     (λ e₆. on-give (toSecond h m sc) e₆ λ p q₅.
-    part prints_time Clock (toSecond h m sc) p (record { hour-to = lh; minute-to = lm; second-to = ls; ms-to = omega arith }) (rw (q, q₁, q₂, q₃, q₄, q₅))))
+    part prints_time Clock (toSecond h m sc) p (record { hour-to = lh; minute-to = lm; second-to = ls; decimals-ok = tt }) (rw (q, q₁, q₂, q₃, q₄, q₅))))
     (λ e₄. on-give (Time.toMinute h m) e₄ λ p q₃.
-    part prints_time Clock (Time.toMinute h m) p (record { hour-to = lh; minute-to = lm; second-to = omega arith; ms-to = omega arith }) (rw (q, q₁, q₂, q₃)))
+    part prints_time Clock (Time.toMinute h m) p (record { hour-to = lh; minute-to = lm; second-to = omega arith; decimals-ok = tt }) (rw (q, q₁, q₂, q₃)))
+
+-- the decimals of a time that was read are one to three digits
+pub decimals_read : (s : List ℕ) (x : Time) (t : List ℕ) → ok x t ≡ read_time s → DecimalsBounds x
+decimals_read s x t e = (time-read s x t (sym e)).bounds.decimals-ok
 
 pub zone-read : (s : List ℕ) (z : Zone) (t : List ℕ) → read_zone s ≡ ok z t → Part prints_zone ZoneBounds s z t
 unfolding read_zone read_offset read_offset_minute
@@ -180,7 +199,7 @@ field-then : {A : Type 0} (low high : ℕ) (k : ℕ → Reader A) (v : ℕ) (t :
 unfolding after
 field-then low high k v t a b c = rw (field-written low high v t a b c)
 
-number-then : {A : Type 0} (n : ℕ) (k : ℕ → Reader A) (v : ℕ) (t : List ℕ) → v < 10 ^ n → after (digits_after n 0) k (digits n v ++ t) ≡ k v t
+number-then : {A : Type 0} (n : ℕ) (k : ℕ → Reader A) (v : ℕ) (t : List ℕ) → v < 10 ^ n → after (all_digits n) k (digits n v ++ t) ≡ k v t
 unfolding after
 number-then n k v t h = rw (number-written n v t h)
 
@@ -218,16 +237,22 @@ minute-written h m t a b =
     field-then 0 24 _ h (58 ∷ digits 2 m ++ t) (omega arith) a (omega arith) ∙ byte-then 58 _ (digits 2 m ++ t)
     ∙ field-then 0 59 (read_second h) m t (omega arith) b (omega arith)
 
-pub time-written : (x : Time) (t : List ℕ) → Clock x → Not 58 t → Not 46 t → read_time (prints_time x ++ t) ≡ ok x t
+-- one to three digits, behind which no digit stands
+decimals-written : (h m s places d : ℕ) (t : List ℕ) → DecimalsBounds (toDecimals h m s places d) → NotDigit t
+    → after (digits_upto 3) (decimals_of h m s) (digits places d ++ t) ≡ ok (toDecimals h m s places d) t
+unfolding after decimals_of
+decimals-written h m s places d t b n = rw (upto-written 3 places d t b.1 b.2 (λ l. n)) (simp (le-leb 1 places b.0))
+
+pub time-written : (x : Time) (t : List ℕ) → Clock x → Not 58 t → Not 46 t → NotDigit t → read_time (prints_time x ++ t) ≡ ok x t
 unfolding read_second read_decimals give
-time-written (Time.toMinute h m) t c n k = minute-written h m t c.hour-to c.minute-to ∙ skip 58 _ _ t n
-time-written (toSecond h m s) t c n k =
+time-written (Time.toMinute h m) t c n k g = minute-written h m t c.hour-to c.minute-to ∙ skip 58 _ _ t n
+time-written (toSecond h m s) t c n k g =
     minute-written h m (58 ∷ digits 2 s ++ t) c.hour-to c.minute-to ∙ chosen 58 _ _ (digits 2 s ++ t)
     ∙ field-then 0 59 (read_decimals h m) s t (omega arith) c.second-to (omega arith) ∙ skip 46 _ _ t k
-time-written (toDecimals h m s ms) t c n k =
-    minute-written h m (58 ∷ digits 2 s ++ 46 ∷ digits 3 ms ++ t) c.hour-to c.minute-to ∙ chosen 58 _ _ (digits 2 s ++ 46 ∷ digits 3 ms ++ t)
-    ∙ field-then 0 59 (read_decimals h m) s (46 ∷ digits 3 ms ++ t) (omega arith) c.second-to (omega arith)
-    ∙ chosen 46 _ _ (digits 3 ms ++ t) ∙ number-then 3 (λ ms. give (toDecimals h m s ms)) ms t (omega (arith, c.ms-to))
+time-written (toDecimals h m s places d) t c n k g =
+    minute-written h m (58 ∷ digits 2 s ++ 46 ∷ digits places d ++ t) c.hour-to c.minute-to ∙ chosen 58 _ _ (digits 2 s ++ 46 ∷ digits places d ++ t)
+    ∙ field-then 0 59 (read_decimals h m) s (46 ∷ digits places d ++ t) (omega arith) c.second-to (omega arith)
+    ∙ chosen 46 _ _ (digits places d ++ t) ∙ decimals-written h m s places d t c.decimals-ok g
 
 -- a zone ends the text
 offset-written : (n : Bool) (h : ℕ) (t : List ℕ) → h ≤ 23 → read_zone (sign n ∷ digits 2 h ++ t) ≡ read_offset_minute n h t
@@ -246,11 +271,11 @@ zone-written (toHour n h) b = offset-written n h [] b
 zone-written (Zone.toMinute n h m) b =
     offset-written n h (58 ∷ digits 2 m) b.0 ∙ field-then 0 59 (λ m. give (Zone.toMinute n h m)) m [] (omega arith) b.1 (omega arith)
 
--- a zone begins with no byte that a second or decimals begin with
-pub zone-start : (z : Zone) → Not 58 (prints_zone z) × Not 46 (prints_zone z)
-zone-start absent = (tt, tt)
-zone-start zulu = ((λ e. omega arith), (λ e. omega arith))
-zone-start (toHour true h) = ((λ e. omega arith), (λ e. omega arith))
-zone-start (toHour false h) = ((λ e. omega arith), (λ e. omega arith))
-zone-start (Zone.toMinute true h m) = ((λ e. omega arith), (λ e. omega arith))
-zone-start (Zone.toMinute false h m) = ((λ e. omega arith), (λ e. omega arith))
+-- a zone begins with no byte that a second or decimals begin with, and with no digit
+pub zone-start : (z : Zone) → Not 58 (prints_zone z) × Not 46 (prints_zone z) × NotDigit (prints_zone z)
+zone-start absent = (tt, tt, tt)
+zone-start zulu = ((λ e. omega arith), (λ e. omega arith), refl)
+zone-start (toHour true h) = ((λ e. omega arith), (λ e. omega arith), refl)
+zone-start (toHour false h) = ((λ e. omega arith), (λ e. omega arith), refl)
+zone-start (Zone.toMinute true h m) = ((λ e. omega arith), (λ e. omega arith), refl)
+zone-start (Zone.toMinute false h m) = ((λ e. omega arith), (λ e. omega arith), refl)

@@ -3,21 +3,19 @@
 use mathlib.Core.Path.{◌≡◌, refl, sym, ap, subst, ◌∙◌}
 use mathlib.Core.Bool.{Bool, true, false, cond}
 use mathlib.Core.List.{List, [], ◌∷◌}
-use Prim.Native.Nat.{ℕ, ◌^◌, ◌≤◌, ◌<◌}
+use Prim.Native.Nat.{ℕ, ◌+◌, ◌^◌, ◌≤◌, ◌<◌}
 use lib.Dec.{eqb}
 use lib.ListN.{drop}
 use native.Mathlib.Omega.{arith}
 use native.Mathlib.Nat.{pow-le-pow_right}
-use borrow.Author.Tests.{le-leb}
 use Rattle.std.specs.Prelude.{Option, Some, None}
 use Rattle.ecma262.specs.Digits.{digits}
 use Rattle.fast_atoi.specs.Inner.{from_le_bytes, moved, join4, join8}
 use Rattle.fast_atoi.proofs.Blocks.{from-small}
 use Rattle.fast_atoi.proofs.Joined.{four-joined, eight-joined}
-use Rattle.parser.specs.declared.Fault.{Fault}
-use Rattle.parser.specs.Reading.{Out, ok, fault, Reader, bind, after, give, choose, within, digits_after}
-use Rattle.parser.specs.Inner.{Reads, block_of, optional}
-use Rattle.parser.proofs.Numbers.{number_read}
+use Rattle.parser.specs.Reading.{Out, ok, fault, Reader, Number, number, bind, after, give, choose, digits_upto}
+use Rattle.parser.specs.Inner.{Takes, as_block, block_upto, optional}
+use Rattle.parser.proofs.Numbers.{upto_read}
 
 -- what follows a part that may be absent
 abbrev pub option_then : {A : Type 0} → (ℕ → Reader A) → Reader A → Option ℕ → Reader A
@@ -38,69 +36,61 @@ by_option {A} b p k q (c ∷ s) = pick (eqb c b)
     pick true = found (p s)
     pick false = refl
 
--- three digits have no bounds but their own
-decimals_free : (s : List ℕ) → optional 46 (after (digits_after 3 0) (within 0 999)) s ≡ optional 46 (digits_after 3 0) s
-unfolding optional choose after give within
-decimals_free [] = refl
-decimals_free (c ∷ s) = ap (λ o. cond (eqb c 46) (bind o (λ v. give (Some v))) (ok None (c ∷ s))) (go (digits_after 3 0 s) refl)
-  where
-    go : (o : Out ℕ) → digits_after 3 0 s ≡ o → bind o (within 0 999) ≡ o
-    go (ok v t) e = let h : v ≤ 999 = omega (arith, (number_read 3 e).small) in simp (le-leb 0 v (omega arith), le-leb v 999 h)
-    go (fault f) e = refl
-
-pub by_decimals : {A : Type 0} (k : ℕ → Reader A) (q : Reader A) (s : List ℕ)
-    → choose 46 (after (digits_after 3 0) k) q s ≡ bind (optional 46 (after (digits_after 3 0) (within 0 999)) s) (option_then k q)
-by_decimals k q s = by_option 46 (digits_after 3 0) k q s ∙ ap (λ o. bind o (option_then k q)) (sym (decimals_free s))
-
 -- ---- a block of digits, joined
 
 -- the number whose digits a block is
-record IsDigits (text : List ℕ) (at n block : ℕ) (t : List ℕ) : Type 0 where
+record IsDigits (text : List ℕ) (at n block count : ℕ) : Type 0 where
   value : ℕ
-  small : value < 10 ^ n
-  bytes : block ≡ from_le_bytes (digits n value)
-  same : Reads (digits_after n 0) text at (ok value t)
+  upto : count ≤ n
+  small : value < 10 ^ count
+  bytes : block ≡ from_le_bytes (digits count value)
+  takes : Takes (digits_upto n) text at value count
 
-pub block_fault : {text : List ℕ} {at : ℕ} (n : ℕ) {f : Fault} → Reads (block_of n) text at (fault f) → Reads (digits_after n 0) text at (fault f)
-unfolding block_of after give
-block_fault {text} {at} n {f} h = record { same = go (digits_after n 0 (drop at text)) h.same }
+number_of : {text : List ℕ} {at : ℕ} (n : ℕ) {block count : ℕ} → Takes (block_upto n) text at block count → IsDigits text at n block count
+unfolding after as_block give
+number_of {text} {at} n {block} {count} h = go (digits_upto n (drop at text)) refl h.same
   where
-    go : (o : Out ℕ) → fault f ≡ bind o (λ v. give (from_le_bytes (digits n v))) → fault f ≡ o
-    go (ok v t) e = cc
-    go (fault g) e = e
+    go : (o : Out Number) → digits_upto n (drop at text) ≡ o → bind o as_block ≡ ok (number block count) (drop (at + count) text) → IsDigits text at n block count
+    go (ok (number v c) u) d e =
+        let r = upto_read n d in
+        let k : c ≡ count = cc in
+        let b : block ≡ from_le_bytes (digits c v) = cc in
+        let q : u ≡ drop (at + count) text = cc in
+        record { value = v; upto = rw k at r.0; small = rw k at r.1.small; bytes = rw k at b; takes = record { same = rw (d, k, q); inside = h.inside } }
+    go (fault f) d e = cc
 
-number_of : {text : List ℕ} {at : ℕ} (n : ℕ) {block : ℕ} {t : List ℕ} → Reads (block_of n) text at (ok block t) → IsDigits text at n block t
-unfolding block_of after give
-number_of {text} {at} n {block} {t} h = go (digits_after n 0 (drop at text)) refl h.same
-  where
-    go : (o : Out ℕ) → digits_after n 0 (drop at text) ≡ o → ok block t ≡ bind o (λ v. give (from_le_bytes (digits n v))) → IsDigits text at n block t
-    go (ok v u) d e =
-        let b : block ≡ from_le_bytes (digits n v) = cc in
-        let q : t ≡ u = cc in
-        record { value = v; small = (number_read n d).small; bytes = b; same = record { same = rw q (sym d) } }
-    go (fault g) d e = cc
+module _ {text : List ℕ} {at : ℕ} (n : ℕ) {block count : ℕ} (h : Takes (block_upto n) text at block count) where
+  abbrev d : IsDigits text at n block count
+  d = number_of n h
 
-module _ {text : List ℕ} {at : ℕ} (n : ℕ) {block : ℕ} {t : List ℕ} (h : Reads (block_of n) text at (ok block t)) where
+  pub count_upto : count ≤ n
+  count_upto = d.upto
+
+  -- no digit writes 0
+  pub none_read : count ≡ 0 → Takes (digits_upto n) text at 0 0
+  none_read e =
+      let h : d.value < 10 ^ 0 = subst (λ k. d.value < 10 ^ k) e d.small in
+      let z : d.value ≡ 0 = omega arith in
+      subst (λ v. Takes (digits_upto n) text at v 0) z (subst (λ k. Takes (digits_upto n) text at d.value k) e d.takes)
+
   pub block_fits : n ≡ 4 → block < 2 ^ 32
-  block_fits e = let d = number_of n h in subst (λ k. block < 256 ^ k) e (rw d.bytes (from-small n d.value))
+  block_fits e =
+      let b : block < 256 ^ count = subst (λ b. b < 256 ^ count) (sym d.bytes) (from-small count d.value) in
+      omega (arith, b, pow-le-pow_right {n = 256} (omega arith) {i = count} {j = 4} (omega (arith, d.upto)))
 
-  pub four_read : {v : ℕ} → n ≡ 4 → v ≡ join4 (moved 32 n block) → Reads (digits_after n 0) text at (ok v t)
-  four_read {v} e j =
-      let d = number_of n h in
-      let q : v ≡ d.value = j ∙ ap (λ b. join4 (moved 32 n b)) d.bytes ∙ four-joined n d.value (omega arith) (omega arith) d.small in
-      rw q d.same
+  pub four_read : {v : ℕ} → n ≡ 4 → 1 ≤ count → v ≡ join4 (moved 32 count block) → Takes (digits_upto n) text at v count
+  four_read {v} e l j =
+      let q : v ≡ d.value = j ∙ ap (λ b. join4 (moved 32 count b)) d.bytes ∙ four-joined count d.value l (omega (arith, d.upto)) d.small in
+      rw q d.takes
 
-  eight-value : {v : ℕ} → 4 ≤ n → n ≤ 8 → v ≡ join8 (moved 64 n block) → v ≡ (number_of n h).value
-  eight-value l u j =
-      let d = number_of n h in
-      j ∙ ap (λ b. join8 (moved 64 n b)) d.bytes ∙ eight-joined n d.value (omega arith) u d.small
+  eight-value : {v : ℕ} → 1 ≤ count → n ≤ 8 → v ≡ join8 (moved 64 count block) → v ≡ d.value
+  eight-value l u j = j ∙ ap (λ b. join8 (moved 64 count b)) d.bytes ∙ eight-joined count d.value l (omega (arith, d.upto)) d.small
 
-  pub eight_fits : {v : ℕ} → 4 ≤ n → n ≤ 8 → v ≡ join8 (moved 64 n block) → v < 2 ^ 32
+  pub eight_fits : {v : ℕ} → 1 ≤ count → n ≤ 8 → v ≡ join8 (moved 64 count block) → v < 2 ^ 32
   eight_fits l u j =
-      let d = number_of n h in
-      omega (arith, eight-value l u j, d.small, pow-le-pow_right {n = 10} (omega arith) {i = n} {j = 8} u)
+      omega (arith, eight-value l u j, d.small, pow-le-pow_right {n = 10} (omega arith) {i = count} {j = 8} (omega (arith, d.upto)))
 
-  pub eight_read : {v : ℕ} → 4 ≤ n → n ≤ 8 → v ≡ join8 (moved 64 n block) → Reads (digits_after n 0) text at (ok v t)
-  eight_read l u j = rw (eight-value l u j) (number_of n h).same
+  pub eight_read : {v : ℕ} → 1 ≤ count → n ≤ 8 → v ≡ join8 (moved 64 count block) → Takes (digits_upto n) text at v count
+  eight_read l u j = rw (eight-value l u j) d.takes
 
-pub ruleset blocks = (block_fault, block_fits, four_read, eight_fits, eight_read)
+pub ruleset blocks = (count_upto, none_read, block_fits, four_read, eight_fits, eight_read)

@@ -15,7 +15,7 @@ use Rattle.parser.specs.declared.Zone.{Zone}
 use Rattle.parser.specs.declared.Zone.TheVariants as Z
 use Rattle.parser.specs.declared.Form.{Form}
 use Rattle.parser.specs.declared.Form.TheVariants as F
-use Rattle.parser.specs.Reading.{Out, ok, fault, Reader, digits_after, after, give, choose}
+use Rattle.parser.specs.Reading.{Out, ok, fault, Reader, Number, number, digits_after, digits_upto, all_digits, after, give, choose}
 
 abbrev pub as_year : Year → format.Year
 as_year (Four y) = format.Year.four y
@@ -29,7 +29,7 @@ as_date (ToDay m d) = format.Date.toDay m d
 abbrev pub as_time : Time → format.Time
 as_time (T.ToMinute h m) = format.Time.toMinute h m
 as_time (T.ToSecond h m s) = format.Time.toSecond h m s
-as_time (T.ToDecimals h m s ms) = format.Time.toDecimals h m s ms
+as_time (T.ToDecimals h m s places decimals) = format.Time.toDecimals h m s places decimals
 
 abbrev pub as_zone : Zone → format.Zone
 as_zone Z.Absent = format.Zone.absent
@@ -76,13 +76,21 @@ pub record IsDigit (text : List ℕ) (at b : ℕ) : Type 0 where
   pub low : 48 ≤ b
   pub high : b ≤ 57
 
--- no digit is at a place of a text, which is that fault where one is needed
-pub record NoDigit (text : List ℕ) (at : ℕ) (f : Fault) : Type 0 where
-  pub same : (n v : ℕ) → digits_after (n + 1) v (drop at text) ≡ fault f
+-- no digit is at a place of a text: digits end there
+pub record NoDigit (text : List ℕ) (at : ℕ) : Type 0 where
+  pub same : (n value count : ℕ) → digits_after n value count (drop at text) ≡ ok (number value count) (drop at text)
 
--- n digits as a block, the first of them in the lowest byte
-unfoldable pub block_of : ℕ → Reader ℕ
-block_of n = after (digits_after n 0) (λ v. give (from_le_bytes (digits n v)))
+-- from the place `at` of the text on, the reader p takes so many digits, inside the text, and they write that number
+pub record Takes (p : Reader Number) (text : List ℕ) (at value count : ℕ) : Type 0 where
+  pub same : p (drop at text) ≡ ok (number value count) (drop (at + count) text)
+  pub inside : 0 < count → at + count ≤ length text
+
+-- digits as a block, the first of them in the lowest byte
+unfoldable pub as_block : Number → Reader Number
+as_block (number value count) = give (number (from_le_bytes (digits count value)) count)
+
+abbrev pub block_upto : ℕ → Reader Number
+block_upto n = after (digits_upto n) as_block
 
 -- where the next byte is the mark, what p reads after it; else nothing
 unfoldable pub optional : ℕ → Reader ℕ → Reader (Option ℕ)
@@ -90,4 +98,4 @@ optional mark p = choose mark (after p (λ v. give (Some v))) (give None)
 
 -- a year of four digits
 abbrev pub four_digits : Reader format.Year
-four_digits = after (digits_after 4 0) (λ y. give (format.Year.four y))
+four_digits = after (all_digits 4) (λ y. give (format.Year.four y))

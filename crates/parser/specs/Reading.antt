@@ -1,6 +1,6 @@
 -- Reading a date text from left to right: the form that it is of, or the first fault. What is read, and in which order, is 01's
--- "`DateParser::parse` reads in this order"; which fault, its table "Where a call is turned back", rows 5 to 8 and the 7 after 8.
--- Definitions only. Assumes nothing.
+-- "`DateParser::parse` reads in this order", for the decimals with change request 8 (02); which fault, its table "Where a call is turned
+-- back", rows 5 to 8 and the 7 after 8. Definitions only. Assumes nothing.
 use Rattle.std.specs.Prelude.{Bool, true, false, cond, List, [], ◌∷◌, ℕ, zero, suc, ◌+◌, ◌-◌, ◌*◌, leb, eqb}
 use Rattle.ecma262.specs.Format.{Year, Date, Time, Zone, Form, time_fields}
 use Rattle.ecma262.specs.Format.Year.{four, six}
@@ -44,11 +44,30 @@ byte b (c ∷ s) = cond (eqb c b) (ok c s) (fault Bad)
 abbrev pub is_digit : ℕ → Bool
 is_digit b = cond (leb 48 b) (leb b 57) false
 
--- n decimal digits, after digits that write v
-unfoldable pub digits_after : ℕ → ℕ → Reader ℕ
-digits_after zero v s = ok v s
-digits_after (suc n) v [] = fault Short
-digits_after (suc n) v (b ∷ s) = cond (is_digit b) (digits_after n (10 * v + (b - 48)) s) (fault Bad)
+-- a number as it is written: "the value together with how many" digits write it
+pub data Number : Type 0 where
+  number : (value count : ℕ) → Number
+
+-- the decimal digits that stand there, "at most n", after `count` digits that write `value`
+unfoldable pub digits_after : ℕ → ℕ → ℕ → Reader Number
+digits_after zero value count s = ok (number value count) s
+digits_after (suc n) value count [] = ok (number value count) []
+digits_after (suc n) value count (b ∷ s) = cond (is_digit b) (digits_after n (10 * value + (b - 48)) (count + 1) s) (ok (number value count) (b ∷ s))
+
+abbrev pub digits_upto : ℕ → Reader Number
+digits_upto n = digits_after n 0 0
+
+-- why a digit that is needed isn't there: the text ends, or another byte stands in its place
+abbrev pub no_digit : List ℕ → Fault
+no_digit [] = Short
+no_digit (b ∷ s) = Bad
+
+-- the number of a field that needs all of its n digits
+unfoldable pub all_of : ℕ → Number → Reader ℕ
+all_of n (number value count) s = cond (eqb count n) (ok value s) (fault (no_digit s))
+
+abbrev pub all_digits : ℕ → Reader ℕ
+all_digits n = after (digits_upto n) (all_of n)
 
 -- v, where it lies between its bounds
 unfoldable pub within : ℕ → ℕ → ℕ → Reader ℕ
@@ -56,7 +75,7 @@ within low high v s = cond (leb low v) (cond (leb v high) (ok v s) (fault Range)
 
 -- a field of two digits; its bounds are tested after its digits
 abbrev pub field : ℕ → ℕ → Reader ℕ
-field low high = after (digits_after 2 0) (within low high)
+field low high = after (all_digits 2) (within low high)
 
 -- ---- 1. "Year: four digits, or a sign and six; -000000 is refused, +000000 is year 0."
 
@@ -66,7 +85,7 @@ signed_year false y s = ok (six false y) s
 
 unfoldable pub read_year : Reader Year
 read_year =
-    choose 43 (after (digits_after 6 0) (signed_year false)) (choose 45 (after (digits_after 6 0) (signed_year true)) (after (digits_after 4 0) (λ y. give (four y))))
+    choose 43 (after (all_digits 6) (signed_year false)) (choose 45 (after (all_digits 6) (signed_year true)) (after (all_digits 4) (λ y. give (four y))))
 
 -- ---- 2. "Then the end, `T`, or `-` and a month 01 to 12; then the end, `T`, or `-` and a day 01 to 31; then the end or `T`."
 
@@ -76,11 +95,14 @@ read_day m = choose 45 (after (field 1 31) (λ d. give (toDay m d))) (give (toMo
 unfoldable pub read_date : Reader Date
 read_date = choose 45 (after (field 1 12) read_day) (give toYear)
 
--- ---- 3. "After `T`: hour 00 to 24, `:`, minute 00 to 59; optionally `:` and second 00 to 59; after a second optionally `.` and
--- exactly three digits."
+-- ---- 3. "After `T`: hour 00 to 24, `:`, minute 00 to 59; optionally `:` and second 00 to 59; after a second optionally `.`", and by 02
+-- "After the point one to three digits are now read". "A fourth digit is still 6", a byte that may not follow, "and no digit is 5 or 6".
+
+unfoldable pub decimals_of : ℕ → ℕ → ℕ → Number → Reader Time
+decimals_of h m s (number value count) t = cond (leb 1 count) (ok (toDecimals h m s count value) t) (fault (no_digit t))
 
 unfoldable pub read_decimals : ℕ → ℕ → ℕ → Reader Time
-read_decimals h m s = choose 46 (after (digits_after 3 0) (λ ms. give (toDecimals h m s ms))) (give (toSecond h m s))
+read_decimals h m s = choose 46 (after (digits_upto 3) (decimals_of h m s)) (give (toSecond h m s))
 
 unfoldable pub read_second : ℕ → ℕ → Reader Time
 read_second h m = choose 58 (after (field 0 59) (read_decimals h m)) (give (Time.toMinute h m))

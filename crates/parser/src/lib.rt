@@ -3,11 +3,11 @@
 // denotes is another crate's.
 #![tactic(auto)]
 
-ghost use Rattle.std.specs.Prelude.{◌≡◌, ◌≤◌, false, drop, MatchOption, MatchResult};
+ghost use Rattle.std.specs.Prelude.{◌≡◌, ◌≤◌, ◌<◌, ◌^◌, false, drop, MatchOption};
 ghost use Rattle.std.specs.Range.{range_inclusive_start, range_inclusive_end, range_inclusive_exhausted};
-ghost use Rattle.ecma262.specs.Format.{time_fields};
-ghost use Rattle.parser.specs.Reading.{digits_after, byte, within, signed_year, after, read_year, read_day, read_date, read_decimals, read_second, read_time, read_offset_minute, read_offset, read_zone, after_date, after_zone, time_allowed, time_part, read};
-ghost use Rattle.parser.specs.Inner.{Reads, Ends, Next, IsDigit, NoDigit, block_of, four_digits, as_is, optional, out, as_year, as_date, as_time, as_zone, as_reading};
+ghost use Rattle.ecma262.specs.Format.{DecimalsBounds, thousandths, time_fields};
+ghost use Rattle.parser.specs.Reading.{digits_upto, no_digit, all_digits, byte, within, signed_year, after, read_year, read_day, read_date, decimals_of, read_decimals, read_second, read_time, read_offset_minute, read_offset, read_zone, after_date, after_zone, time_allowed, time_part, read};
+ghost use Rattle.parser.specs.Inner.{Reads, Ends, Next, IsDigit, NoDigit, Takes, block_upto, four_digits, as_is, optional, out, as_year, as_date, as_time, as_zone, as_reading};
 
 use std::ops::RangeInclusive;
 
@@ -39,7 +39,7 @@ pub enum Date {
     ToDay { month: u32, day: u32 },
 }
 
-// To the minute, to the second, or with three decimals.
+// To the minute, to the second, or with decimals: how many digits, and the number that they write.
 #[derive(Clone, Copy)]
 pub enum Time {
     ToMinute {
@@ -55,8 +55,21 @@ pub enum Time {
         hour: u32,
         minute: u32,
         second: u32,
-        ms: u32,
+        places: usize,
+        decimals: u32,
     },
+}
+
+// Decimals of a second as its thousandths.
+fn thousandths(places: usize, decimals: u32) -> u32
+    requires { (1 ≤ places) × (places ≤ 3) × (decimals < 10 ^ places) }
+    ensures { result ≡ thousandths places decimals }
+{
+    match places {
+        1 => 100 * decimals,
+        2 => 10 * decimals,
+        _ => decimals,
+    }
 }
 
 // The fields of a time, an absent one being 0.
@@ -70,6 +83,7 @@ pub struct TimeFields {
 
 impl Time {
     pub fn fields(self) -> TimeFields
+        requires { DecimalsBounds (as_time self) }
         ensures { (result.hour ≡ (time_fields (as_time self)).hour) × (result.minute ≡ (time_fields (as_time self)).minute) × (result.second ≡ (time_fields (as_time self)).second) × (result.ms ≡ (time_fields (as_time self)).ms) }
     {
         match self {
@@ -93,12 +107,13 @@ impl Time {
                 hour,
                 minute,
                 second,
-                ms,
+                places,
+                decimals,
             } => TimeFields {
                 hour,
                 minute,
                 second,
-                ms,
+                ms: thousandths(places, decimals),
             },
         }
     }
@@ -151,70 +166,100 @@ fn next_expect(text: &[u8], at: usize, expected: u8) -> Read<u8>
     }
 }
 
-// The digit at a place, as its byte.
+// The digit at a place, as its byte, or none where no digit stands.
 #[tactic(auto, using(crate::proofs::Runs::bytes))]
-fn next_ascii_digit(text: &[u8], at: usize) -> Result<u8, Fault>
-    ensures { MatchResult result (IsDigit text.now at) (NoDigit text.now at) }
+fn next_ascii_digit(text: &[u8], at: usize) -> Option<u8>
+    ensures { MatchOption result (NoDigit text.now at) (IsDigit text.now at) }
 {
-    let b = peek(text, at).ok_or(Fault::Short)?;
-    if b.is_ascii_digit() {
-        Ok(b)
-    } else {
-        Err(Fault::Bad)
+    match peek(text, at) {
+        Some(b) if b.is_ascii_digit() => Some(b),
+        _ => None,
     }
 }
 
-// `n` digits, joined one by one: "When N is small, process digits naively."
+// Up to `n` digits, joined one by one: "When N is small, process digits naively."
 #[tactic(auto, using(crate::proofs::Runs::runs))]
-fn few_digits(text: &[u8], at: usize, n: usize) -> Read<u32>
+fn few_digits(text: &[u8], at: usize, n: usize) -> (u32, usize)
     requires { n ≤ 8 }
-    ensures { Reads (digits_after n 0) text.now at (out as_is text.now result) }
+    ensures { Takes (digits_upto n) text.now at result.0 result.1 }
 {
     let mut value = 0;
     for i in 0..n {
-        let digit = next_ascii_digit(text, at + i)?;
-        value = 10 * value + u32::from(digit - b'0');
+        match next_ascii_digit(text, at + i) {
+            Some(digit) => value = 10 * value + u32::from(digit - b'0'),
+            None => return (value, i),
+        }
     }
-    Ok((value, at + n))
+    (value, n)
 }
 
-// `n` digits as a block, the first of them in the lowest byte.
+// Up to `n` digits as a block, the first of them in the lowest byte.
 #[tactic(auto, using(crate::proofs::Runs::gathers))]
-fn next_n_ascii_digits(text: &[u8], at: usize, n: usize) -> Read<u64>
+fn next_n_ascii_digits(text: &[u8], at: usize, n: usize) -> (u64, usize)
     requires { n ≤ 8 }
-    ensures { Reads (block_of n) text.now at (out as_is text.now result) }
+    ensures { Takes (block_upto n) text.now at result.0 result.1 }
 {
     let mut block = 0;
     for i in 0..n {
-        let digit = next_ascii_digit(text, at + i)?;
-        block += u64::from(digit) << (8 * i);
+        match next_ascii_digit(text, at + i) {
+            Some(digit) => block += u64::from(digit) << (8 * i),
+            None => return (block, i),
+        }
     }
-    Ok((block, at + n))
+    (block, n)
 }
 
-// The number of `n` digits: few are joined as they are read, four as a block of 32 bits, more as one of 64.
+// The number of up to `n` digits, and how many stand there: few are joined as they are read, four as a block of 32 bits, more as one of 64.
 #[tactic(auto, using(crate::proofs::Steps::blocks))]
-fn parse_n_ascii_digits(text: &[u8], at: usize, n: usize) -> Read<u32>
+fn parse_n_ascii_digits(text: &[u8], at: usize, n: usize) -> (u32, usize)
     requires { n ≤ 8 }
-    ensures { Reads (digits_after n 0) text.now at (out as_is text.now result) }
+    ensures { Takes (digits_upto n) text.now at result.0 result.1 }
 {
     if n < 4 {
         return few_digits(text, at, n);
     }
-    let (block, next) = next_n_ascii_digits(text, at, n)?;
-    if n == 4 {
-        return Ok((fast_atoi::process_4(block as u32, n), next));
+    let (block, count) = next_n_ascii_digits(text, at, n);
+    if count == 0 {
+        return (0, 0);
     }
-    Ok((fast_atoi::process_8(block, n) as u32, next))
+    if n == 4 {
+        return (fast_atoi::process_4(block as u32, count), count);
+    }
+    (fast_atoi::process_8(block, count) as u32, count)
+}
+
+// Why a digit that is needed isn't at a place.
+fn no_digit(text: &[u8], at: usize) -> Fault
+    ensures { result ≡ no_digit (drop at text.now) }
+{
+    match peek(text, at) {
+        None => Fault::Short,
+        Some(_) => Fault::Bad,
+    }
+}
+
+// A number that needs all of its `n` digits.
+#[tactic(auto, unfolding(crate::specs::Reading::after, crate::specs::Reading::all_of))]
+fn all_digits(text: &[u8], at: usize, n: usize) -> Read<u32>
+    requires { n ≤ 8 }
+    ensures { Reads (all_digits n) text.now at (out as_is text.now result) }
+{
+    let (value, count) = parse_n_ascii_digits(text, at, n);
+    let next = at + count;
+    if count == n {
+        Ok((value, next))
+    } else {
+        Err(no_digit(text, next))
+    }
 }
 
 // A field of `n` digits, whose bounds are tested after all are read.
 #[tactic(auto, unfolding(crate::specs::Reading::after, crate::specs::Reading::within))]
 fn read_field(text: &[u8], at: usize, n: usize, bounds: RangeInclusive<u32>) -> Read<u32>
     requires { (n ≤ 8) × (range_inclusive_exhausted bounds ≡ false) }
-    ensures { Reads (after (digits_after n 0) (within (range_inclusive_start bounds) (range_inclusive_end bounds))) text.now at (out as_is text.now result) }
+    ensures { Reads (after (all_digits n) (within (range_inclusive_start bounds) (range_inclusive_end bounds))) text.now at (out as_is text.now result) }
 {
-    let (value, next) = parse_n_ascii_digits(text, at, n)?;
+    let (value, next) = all_digits(text, at, n)?;
     if bounds.contains(&value) {
         Ok((value, next))
     } else {
@@ -232,7 +277,7 @@ fn field_after(
     bounds: RangeInclusive<u32>,
 ) -> Read<Option<u32>>
     requires { (n ≤ 8) × (range_inclusive_exhausted bounds ≡ false) }
-    ensures { Reads (optional mark (after (digits_after n 0) (within (range_inclusive_start bounds) (range_inclusive_end bounds)))) text.now at (out as_is text.now result) }
+    ensures { Reads (optional mark (after (all_digits n) (within (range_inclusive_start bounds) (range_inclusive_end bounds)))) text.now at (out as_is text.now result) }
 {
     match peek(text, at) {
         Some(b) if b == mark => {
@@ -248,9 +293,9 @@ fn field_after(
 // Six digits after a sign; `-000000` is no year.
 #[tactic(auto, unfolding(crate::specs::Reading::after, crate::specs::Reading::signed_year))]
 fn signed_year(text: &[u8], at: usize, negative: bool) -> Read<Year>
-    ensures { Reads (after (digits_after 6 0) (signed_year negative)) text.now at (out as_year text.now result) }
+    ensures { Reads (after (all_digits 6) (signed_year negative)) text.now at (out as_year text.now result) }
 {
-    let (year, next) = parse_n_ascii_digits(text, at, 6)?;
+    let (year, next) = all_digits(text, at, 6)?;
     if negative && year == 0 {
         return Err(Fault::Range);
     }
@@ -261,7 +306,7 @@ fn signed_year(text: &[u8], at: usize, negative: bool) -> Read<Year>
 fn four_digit_year(text: &[u8], at: usize) -> Read<Year>
     ensures { Reads four_digits text.now at (out as_year text.now result) }
 {
-    let (year, next) = parse_n_ascii_digits(text, at, 4)?;
+    let (year, next) = all_digits(text, at, 4)?;
     Ok((Year::Four(year), next))
 }
 
@@ -301,28 +346,42 @@ fn parse_month(text: &[u8], at: usize) -> Read<Date>
 
 // ---- the time
 
-// After a second: `.` and three digits, or nothing of the time.
-#[tactic(auto, using(crate::proofs::Steps::by_decimals), unfolding(crate::specs::Reading::read_decimals, crate::specs::Reading::give))]
+// After a `.`: one to three digits, "and no digit is 5 or 6".
+#[tactic(auto, unfolding(crate::specs::Reading::decimals_of, crate::specs::Reading::after))]
+fn decimals(text: &[u8], at: usize, hour: u32, minute: u32, second: u32) -> Read<Time>
+    ensures { Reads (after (digits_upto 3) (decimals_of hour minute second)) text.now at (out as_time text.now result) }
+{
+    let (decimals, places) = parse_n_ascii_digits(text, at, 3);
+    let next = at + places;
+    if places == 0 {
+        return Err(no_digit(text, next));
+    }
+    Ok((
+        Time::ToDecimals {
+            hour,
+            minute,
+            second,
+            places,
+            decimals,
+        },
+        next,
+    ))
+}
+
+// After a second: `.` and one to three digits, or nothing of the time.
+#[tactic(auto, unfolding(crate::specs::Reading::read_decimals, crate::specs::Reading::decimals_of, crate::specs::Reading::choose, crate::specs::Reading::after, crate::specs::Reading::give))]
 fn parse_decimals(text: &[u8], at: usize, hour: u32, minute: u32, second: u32) -> Read<Time>
     ensures { Reads (read_decimals hour minute second) text.now at (out as_time text.now result) }
 {
-    match field_after(text, at, b'.', 3, 0..=999)? {
-        (None, next) => Ok((
+    match peek(text, at) {
+        Some(b'.') => decimals(text, at + 1, hour, minute, second),
+        _ => Ok((
             Time::ToSecond {
                 hour,
                 minute,
                 second,
             },
-            next,
-        )),
-        (Some(ms), next) => Ok((
-            Time::ToDecimals {
-                hour,
-                minute,
-                second,
-                ms,
-            },
-            next,
+            at,
         )),
     }
 }
@@ -398,6 +457,7 @@ fn after_zone(z: Zone) -> Fault
 
 // "Hour 24 is only valid as 24:00:00.000"
 fn time_allowed(t: Time) -> bool
+    requires { DecimalsBounds (as_time t) }
     ensures { result ≡ time_allowed (as_time t) }
 {
     let f = t.fields();
@@ -405,7 +465,7 @@ fn time_allowed(t: Time) -> bool
 }
 
 // After `T`: the time, the zone and the end.
-#[tactic(auto, unfolding(crate::specs::Reading::time_part, crate::specs::Reading::after, crate::specs::Reading::ending))]
+#[tactic(auto, using(crate::proofs::Stages::decimals_read), unfolding(crate::specs::Reading::time_part, crate::specs::Reading::after, crate::specs::Reading::ending))]
 fn parse_timed(text: &[u8], at: usize, year: Year, date: Date) -> Result<Form, Fault>
     ensures { as_reading result ≡ time_part (as_year year) (as_date date) (drop at text.now) }
 {

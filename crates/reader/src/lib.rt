@@ -36,6 +36,7 @@ fn year_number(y: Year) -> i64
 }
 
 // MakeTime of a time's fields.
+#[tactic(auto, using(ecma262::proofs::Decimals::ms_below))]
 fn clock(t: Time) -> u32
     requires { TimeBounds (as_time t) }
     ensures { (result ≡ 3_600_000 * (time_fields (as_time t)).hour + 60_000 * (time_fields (as_time t)).minute + 1_000 * (time_fields (as_time t)).second + (time_fields (as_time t)).ms) × (result < 100_000_000) }

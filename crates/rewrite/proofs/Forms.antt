@@ -13,6 +13,7 @@ use Rattle.ecma262.specs.Format.Date.{toDay}
 use Rattle.ecma262.specs.Format.Time.{toDecimals}
 use Rattle.ecma262.specs.Format.Zone.{zulu}
 use Rattle.ecma262.specs.Format.Form.{timed}
+use Rattle.ecma262.proofs.Decimals.{three-decimals}
 use Rattle.ecma262.proofs.Written.{month-days}
 use Rattle.reader.specs.Denotes.{instant_of, Denotes}
 
@@ -36,7 +37,7 @@ module _ {f : Fields} {w : List ℕ} (r : WrittenAs f w) where
   day = toDay (f.month + 1) f.date
 
   abbrev time : Time
-  time = toDecimals f.hour f.minute f.second f.ms
+  time = toDecimals f.hour f.minute f.second 3 f.ms
 
   abbrev form : Form
   form = timed y.year day time zulu
@@ -47,7 +48,7 @@ module _ {f : Fields} {w : List ℕ} (r : WrittenAs f w) where
         bounds = (
           y.bounds,
           (omega arith, r.month-upto, r.day-from, omega (arith, r.day-upto, month-days f.year f.month (omega (arith, r.month-upto)))),
-          record { hour-to = omega (arith, r.hour-upto); minute-to = r.minute-upto; second-to = r.second-upto; ms-to = r.ms-upto; midnight = λ e. absurd (omega (arith, e, r.hour-upto)) },
+          record { hour-to = omega (arith, r.hour-upto); minute-to = r.minute-upto; second-to = r.second-upto; decimals-ok = (omega arith, omega arith, omega (arith, r.ms-upto)); midnight = λ e. absurd (omega (arith, e, r.hour-upto)) },
           tt,
         );
         printed =
@@ -65,5 +66,5 @@ module _ {f : Fields} {w : List ℕ} (r : WrittenAs f w) where
       record {
         form = form;
         writes = written-form;
-        instant = λ i. make_date (make_day (y.number i) (pos (month-number i)) (pos f.date)) (make_time (pos f.hour) (pos f.minute) (pos f.second) (pos f.ms));
+        instant = λ i. make_date (make_day (y.number i) (pos (month-number i)) (pos f.date)) (make_time (pos f.hour) (pos f.minute) (pos f.second) (pos (three-decimals f.ms i)));
       }

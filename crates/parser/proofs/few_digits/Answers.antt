@@ -4,4 +4,4 @@ use Rattle.parser.proofs.Runs.{run_more}
 use Rattle.parser.proofs.few_digits.Goals as goal
 
 pub loop-i-preserved : goal.loop-i-preserved
-loop-i-preserved c = run_more c.loop-i.invariant c.loop-i-test.true c.in_ok-digit.ensures (search rules)
+loop-i-preserved c = run_more c.loop-i.invariant c.loop-i-test.true c.in-Some.ensures (search rules)

@@ -1,7 +1,7 @@
--- `next_ascii_digit` answers the digit, or the fault where one is needed. Assumes nothing.
+-- `next_ascii_digit` answers the digit, or none where another byte stands. Assumes nothing.
 use borrow.Author.Rules.{rules}
 use Rattle.parser.proofs.Runs.{digit_other}
 use Rattle.parser.proofs.next_ascii_digit.Goals as goal
 
-pub returns-else-is_ascii_digit : goal.returns-else-is_ascii_digit
-returns-else-is_ascii_digit c = digit_other (search rules) c.if-is_ascii_digit.ensures.cases
+pub returns-in_default : goal.returns-in_default
+returns-in_default c = digit_other (search rules) c.if-is_ascii_digit.ensures.cases
