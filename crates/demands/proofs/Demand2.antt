@@ -16,24 +16,30 @@
 --   time_value, time_reply     a clipped time as f64, NaN for none; its bits as an answer                 make/specs/Make, fields/specs/Outcome
 --   Accepted zone              an accepted zone list                                                      zone/specs/Zone
 --   Writes form text           the text is "the Date Time String Format as 01 sets it", by its form       ecma262/specs/Format
+--   thousandths places n       decimals, so many digits that write n, in milliseconds                     ecma262/specs/Format
 --   Denotes zone text t        t is "the instant that 01 says the text denotes"                           reader/specs/Denotes
+--   DenotesBy kind …           it is so by a form of a kind: ThreeOrNone decimals, or Short               demands/specs/Terms
 --   AcceptedText zone text     list and text are accepted: the text denotes an instant of the range       reader/specs/Denotes
 --   iso_text, utc_text …       the standard's texts                                                       ecma262/specs/Texts
 --   written value text out     the text is written, or the output is shorter than it (row 11)             writer/specs/Outcome
 -- The differential run is no theorem: docs/DIFFERENTIAL.md. That accepted lists exist, Demand3 says. The proofs are by the laws that are
 -- cited. Assumes nothing.
-use mathlib.Core.Path.{◌≡◌, sym, ap, ◌∙◌}
+use mathlib.Core.Path.{◌≡◌, refl, sym, ap, ◌∙◌}
 use mathlib.Core.Bool.{Bool, true, false, true≢false}
-use mathlib.Core.List.{List, [], ◌++◌}
+use mathlib.Core.List.{List, [], ◌∷◌, ◌++◌}
 use mathlib.Core.Logic.{◌↔◌, ◌⊎◌}
-use Prim.Native.Nat.{ℕ, ◌≤◌, ◌<◌}
+use Prim.Native.Nat.{ℕ, ◌-◌, ◌*◌, ◌≤◌, ◌<◌}
 use native.Mathlib.Omega.{arith}
 use lib.IntN.{ℤ, pos, nat_abs}
-use lib.ListN.{length}
+use lib.ListN.{length, replicate}
 use lib.Ieee.{Float, nan, binary64, of_bits, of_int}
 use Rattle.ecma262.specs.Date.{InRange, IsYearFromTime, year_from_time, IsMakeDay, make_day, time_clip}
 use Rattle.ecma262.specs.Domain.{Shown}
 use Rattle.ecma262.specs.Texts.{iso_text, utc_text, local_text, invalid_date}
+use Rattle.ecma262.specs.Digits.{digits}
+use Rattle.ecma262.specs.Format.{Form, Bounds, DecimalsBounds, prints, prints_time, time_fields, thousandths}
+use Rattle.ecma262.specs.Format.Time.{toDecimals}
+use Rattle.ecma262.proofs.Decimals.{tenths, hundredths, three-decimals, zeros-behind-to-three}
 use Rattle.ecma262.proofs.Year.{year-is, year-unique}
 use Rattle.ecma262.proofs.Fields.{year-day, date-natural, make-day-is, make-day-unique}
 use Rattle.ecma262.proofs.Range.{clip-inside}
@@ -59,13 +65,15 @@ use Rattle.new_date.specs.Standard.{no_field, argument_z, new_date_z, shift_in_z
 use Rattle.new_date.proofs.NoField.{no-field-exact}
 use Rattle.fields.specs.Outcome.{start_of, time_reply, build_outcome, set_outcome}
 use Rattle.fields.proofs.Outcomes.{build-exact, build-first-nan, build-written-in, no-field-passes, set-exact, set-first-nan, set-no-field, set-no-year-of-nan, set-of-nan, set-written-in, set-year-of-nan}
+use Rattle.parser.specs.Reading.{ok, after, digits_upto, all_digits, decimals_of}
 use Rattle.reader.specs.Denotes.{Denotes, AcceptedText}
-use Rattle.reader.specs.Outcome.{read_outcome}
-use Rattle.reader.proofs.Denotation.{denotes-unique}
+use Rattle.reader.specs.Outcome.{answer_at, read_outcome}
+use Rattle.reader.proofs.Denotation.{denotes-unique, answered}
 use Rattle.writer.specs.Outcome.{refused, written}
 use Rattle.writer.specs.Writer.{iso_outcome, utc_outcome, local_outcome}
-use Rattle.demands.specs.Terms.{CalendarAt, CalendarOfYear, built, steps_from, read_number, OfText, NoForm, DenotesOutside, OnlyMinute, MinuteSet, until_suffix, suffix, zero_list, first_is_one, minute_alone, minute_and_rest}
+use Rattle.demands.specs.Terms.{CalendarAt, CalendarOfYear, built, steps_from, read_number, OfText, NoForm, DenotesOutside, ThreeOrNone, Short, DenotesBy, with_three, digits_before, OnlyMinute, MinuteSet, until_suffix, suffix, zero_list, first_is_one, minute_alone, minute_and_rest}
 use Rattle.demands.proofs.Cases as cases
+use Rattle.demands.proofs.Decimals as decimals
 use Rattle.demands.proofs.Kept as kept
 use Rattle.demands.proofs.Reading as reading
 use Rattle.demands.proofs.Writing as writing
@@ -223,6 +231,44 @@ refuses-the-instant-exactly = reading.nine-exactly
 -- 1 exactly when the list is not accepted
 pub refuses-the-list-exactly : (zone text : List ℕ) → (read_number zone text ≡ 1) ↔ (Accepted zone → ⊥)
 refuses-the-list-exactly = reading.one-exactly
+
+-- ---- the decimals. 02, change request 8: "After the point one to three digits are now read, as tenths, hundredths or thousandths."
+
+pub tenths-hundredths-thousandths : (d : ℕ) → (thousandths 1 d ≡ 100 * d) × (thousandths 2 d ≡ 10 * d) × (thousandths 3 d ≡ d)
+tenths-hundredths-thousandths d = (tenths d, hundredths d, three-decimals d)
+
+-- the format before is the case of three digits: they print, are a field and are bounded as before the request
+pub three-decimals-as-before : (h m s ms : ℕ)
+    → (prints_time (toDecimals h m s 3 ms) ≡ digits 2 h ++ 58 ∷ digits 2 m ++ 58 ∷ digits 2 s ++ 46 ∷ digits 3 ms)
+    × ((time_fields (toDecimals h m s 3 ms)).ms ≡ ms) × (DecimalsBounds (toDecimals h m s 3 ms) ↔ (ms ≤ 999))
+three-decimals-as-before h m s ms = (refl, three-decimals ms, (λ b. omega (arith, b.2), λ l. (omega arith, omega arith, omega arith)))
+
+-- acceptance grows only: what a text denoted before it denotes still, and is answered; new are the texts with one decimal or two, and
+-- no text is both
+pub old-texts-answered : (zone text : List ℕ) (t : ℤ) → Accepted zone → DenotesBy ThreeOrNone zone text t → Denotes zone text t × (read_outcome zone text ≡ answer_at t)
+old-texts-answered zone text t a o = (o.denotes, answered zone text a t o.denotes)
+
+pub new-texts : (zone text : List ℕ) (t : ℤ) → Denotes zone text t ↔ (DenotesBy ThreeOrNone zone text t ⊎ DenotesBy Short zone text t)
+new-texts = decimals.new-texts
+
+pub no-text-is-both : (zone text : List ℕ) (t u : ℤ) → DenotesBy ThreeOrNone zone text t → DenotesBy Short zone text u → ⊥
+no-text-is-both = decimals.no-text-is-both
+
+-- `Denotes` gives `.5` and `.500` the same instant: the zeros written in behind one or two decimals
+pub with-three-denotes : (zone : List ℕ) (f : Form) → Bounds f → (t : ℤ) → Denotes zone (prints f) t ↔ Denotes zone (prints (with_three f)) t
+with-three-denotes = decimals.with-three-denotes
+
+pub zeros-are-written-in : (places n : ℕ) → places ≤ 3 → digits 3 (thousandths places n) ≡ digits places n ++ replicate (3 - places) 48
+zeros-are-written-in = zeros-behind-to-three
+
+-- every other field keeps its answers: a number that needs all its digits is read as before, to its fault and what is left; and so are three
+-- digits after the point
+pub numbers-as-before : (n : ℕ) (s : List ℕ) → all_digits n s ≡ digits_before n 0 s
+numbers-as-before = decimals.numbers-as-before
+
+pub three-digits-as-before : (h m sc : ℕ) (s : List ℕ) (v : ℕ) (t : List ℕ) → digits_before 3 0 s ≡ ok v t
+    → after (digits_upto 3) (decimals_of h m sc) s ≡ ok (toDecimals h m sc 3 v) t
+three-digits-as-before = decimals.three-digits-as-before
 
 -- ---- "the writers give its texts, the local suffix excepted": of the whole number t, by any of its bits. The answer has the bits of t, "the
 -- time it was given (-0 as 0)".

@@ -11,13 +11,18 @@
 -- what it cites.
 -- Assumes nothing.
 use mathlib.Core.Path.{◌≡◌}
-use mathlib.Core.List.{List}
+use mathlib.Core.List.{List, ◌++◌}
 use mathlib.Core.Logic.{◌↔◌}
 use Prim.Native.Nat.{ℕ, ◌≤◌}
 use lib.IntN.{ℤ}
 use lib.ListN.{length, replicate}
 use Rattle.ecma262.specs.Date.{InRange}
-use Rattle.ecma262.specs.Texts.{iso_text}
+use Rattle.ecma262.specs.Digits.{digits}
+use Rattle.ecma262.specs.Format.{Year, Date, Form, Bounds, prints, prints_year, prints_date}
+use Rattle.ecma262.specs.Format.Time.{toDecimals}
+use Rattle.ecma262.specs.Format.Zone.{zulu}
+use Rattle.ecma262.specs.Format.Form.{timed}
+use Rattle.ecma262.specs.Texts.{ascii, iso_text}
 use Rattle.ecma262.specs.Written.{Written}
 use Rattle.zone.specs.Zone.{Accepted}
 use Rattle.std.specs.Prelude.{Ok}
@@ -27,7 +32,9 @@ use Rattle.reader.specs.Outcome.{read_outcome}
 use Rattle.writer.specs.Writer.{iso_outcome}
 use Rattle.rewrite.specs.Rewrite.{rewrite_outcome, run_of}
 use Rattle.rewrite.proofs.Runs as runs
+use Rattle.demands.specs.Terms.{with_three}
 use Rattle.demands.proofs.Cases as cases
+use Rattle.demands.proofs.Decimals as decimals
 
 -- Accepted lists exist, so none of the clauses is empty: the list (0, 0), 12 bytes of 0, is one.
 pub accepted-lists-exist : Accepted (replicate 12 0)
@@ -70,3 +77,24 @@ pub rewriting-again : (zone text : List ℕ) (a : AcceptedText zone text) (out :
     → ((rewrite_outcome zone' (run_of (rewrite_outcome zone text out)) out').reply ≡ (rewrite_outcome zone text out).reply)
     × (run_of (rewrite_outcome zone' (run_of (rewrite_outcome zone text out)) out') ≡ run_of (rewrite_outcome zone text out))
 rewriting-again = runs.rewriting-again
+
+-- ---- 02, change request 8: "Rewriting always prints three digits", and one or two decimals rewrite as three do. A text of the format and
+-- the one with zeros written in are accepted together, and rewrite to equal bytes
+pub zeros-rewrite-alike : (zone : List ℕ) (f : Form) → Bounds f → (a : AcceptedText zone (prints f))
+    → (b : AcceptedText zone (prints (with_three f)))
+    × ((out out' : List ℕ) → Enough a out → Enough b out' → run_of (rewrite_outcome zone (prints f) out) ≡ run_of (rewrite_outcome zone (prints (with_three f)) out'))
+zeros-rewrite-alike zone f k a =
+    let b : AcceptedText zone (prints (with_three f)) = record { list = a.list; t = a.t; denotes = (decimals.with-three-denotes zone f k a.t).0 a.denotes; inside = a.inside } in
+    (b, λ out out' l l'. (equal-bytes-exactly-when-one-instant zone (prints f) (prints (with_three f)) a b out out' l l').1 (a.t, a.denotes, b.denotes))
+
+-- a text to the minute, and what stands behind it
+abbrev pub to_minute : Year → Date → ℕ → ℕ → List ℕ → List ℕ
+to_minute y d h m rest = prints_year y ++ (prints_date d ++ (ascii "T" ++ digits 2 h ++ ascii ":" ++ digits 2 m ++ rest))
+
+-- so `…:00.5Z` and `…:00.500Z`
+pub half-second-rewrites-alike : (zone : List ℕ) (y : Year) (d : Date) (h m : ℕ) → Bounds (timed y d (toDecimals h m 0 1 5) zulu)
+    → (a : AcceptedText zone (to_minute y d h m (ascii ":00.5Z")))
+    → (b : AcceptedText zone (to_minute y d h m (ascii ":00.500Z")))
+    × ((out out' : List ℕ) → Enough a out → Enough b out'
+    → run_of (rewrite_outcome zone (to_minute y d h m (ascii ":00.5Z")) out) ≡ run_of (rewrite_outcome zone (to_minute y d h m (ascii ":00.500Z")) out'))
+half-second-rewrites-alike zone y d h m k a = zeros-rewrite-alike zone (timed y d (toDecimals h m 0 1 5) zulu) k a

@@ -1,4 +1,5 @@
 mod Cases
+mod Decimals
 mod Kept
 mod Reading
 mod Writing

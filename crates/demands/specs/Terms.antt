@@ -1,14 +1,18 @@
 -- What the theorems of demand 2 (proofs/Demand2.antt) are said with, over the definitions that the contracts cite. Definitions only.
 -- Assumes nothing.
-use Rattle.std.specs.Prelude.{◌≡◌, Bool, true, false, List, [], ◌∷◌, ◌++◌, ℕ, ◌≤◌, ◌<◌, ℤ, pos, nat_abs, replicate, Float}
+use Rattle.std.specs.Prelude.{◌≡◌, Bool, true, false, cond, List, [], ◌∷◌, ◌++◌, ℕ, zero, suc, ◌+◌, ◌-◌, ◌*◌, ◌≤◌, ◌<◌, ℤ, pos, nat_abs, replicate, Float}
 use Rattle.ecma262.specs.Date.{time_range, day_of_time, time_within_day, days_in_year, day_from_year, time_from_year, year_from_time, day_within_year, in_leap_year, month_from_time, date_from_time, week_day, hour_from_time, min_from_time, sec_from_time, ms_from_time, make_time, make_day, make_date, make_full_year, time_clip, fields_of}
-use Rattle.ecma262.specs.Format.{Form, Writes}
+use Rattle.ecma262.specs.Format.{Time, Form, Writes, thousandths}
+use Rattle.ecma262.specs.Format.Time.{toSecond, toDecimals}
+use Rattle.ecma262.specs.Format.Form.{date, timed}
 use Rattle.ecma262.specs.Texts.{ascii, date_string_of, time_string_of, time_zone_string}
 use Rattle.float.specs.Whole.{IsWhole}
 use Rattle.calendar.specs.Calendar.{day_f, time_within_day_f, days_in_year_f, day_from_year_f, time_from_year_f, year_from_time_f, day_within_year_f, in_leap_year_f, month_from_time_f, date_from_time_f, week_day_f, hour_from_time_f, min_from_time_f, sec_from_time_f, ms_from_time_f}
 use Rattle.make.specs.Make.{time_value}
 use Rattle.zone.specs.Zone.{records}
 use Rattle.field_record.specs.FieldRecord.{stands, field_at}
+use Rattle.parser.specs.declared.Fault.TheVariants as F
+use Rattle.parser.specs.Reading.{Reader, ok, fault, is_digit}
 use Rattle.local.specs.Local.{offset_of_suffix}
 use Rattle.answer.specs.Answer.{answer_of_time}
 use Rattle.new_date.specs.Calls.{Call}
@@ -83,6 +87,40 @@ NoForm text = (f : Form) → Writes f text → ⊥
 -- the text denotes an instant outside the range
 abbrev pub DenotesOutside : List ℕ → List ℕ → Type 0
 DenotesOutside zone text = (t : ℤ) × Denotes zone text t × (time_range < nat_abs t)
+
+-- ---- the decimals (02, change request 8)
+
+-- a form whose decimals, where it has any, are three: "exactly three digits", the format before the request
+abbrev pub ThreeOrNone : Form → Type 0
+ThreeOrNone (date y d) = Unit
+ThreeOrNone (timed y d (Time.toMinute h m) z) = Unit
+ThreeOrNone (timed y d (toSecond h m s) z) = Unit
+ThreeOrNone (timed y d (toDecimals h m s places decimals) z) = places ≡ 3
+
+-- a form with one decimal or two
+abbrev pub Short : Form → Type 0
+Short (date y d) = ⊥
+Short (timed y d (Time.toMinute h m) z) = ⊥
+Short (timed y d (toSecond h m s) z) = ⊥
+Short (timed y d (toDecimals h m s places decimals) z) = places ≤ 2
+
+-- the text denotes the instant t by a form of a kind
+pub record DenotesBy (Kind : Form → Type 0) (zone text : List ℕ) (t : ℤ) : Type 0 where
+  pub denotes : Denotes zone text t
+  pub kind : Kind denotes.form
+
+-- a form's decimals in thousandths: `.5` is `.500`
+abbrev pub with_three : Form → Form
+with_three (date y d) = date y d
+with_three (timed y d (Time.toMinute h m) z) = timed y d (Time.toMinute h m) z
+with_three (timed y d (toSecond h m s) z) = timed y d (toSecond h m s) z
+with_three (timed y d (toDecimals h m s places decimals) z) = timed y d (toDecimals h m s 3 (thousandths places decimals)) z
+
+-- n digits after ones that write v, as every number was read before the request: the first that is missing is at fault
+unfoldable pub digits_before : ℕ → ℕ → Reader ℕ
+digits_before zero v s = ok v s
+digits_before (suc n) v [] = fault F.Short
+digits_before (suc n) v (b ∷ s) = cond (is_digit b) (digits_before n (10 * v + (b - 48)) s) (fault F.Bad)
 
 -- ---- the local writer
 

@@ -1,8 +1,8 @@
 -- Decimals of a second: one digit is tenths, two are hundredths, three are thousandths; they are less than a second, and zeros written in
 -- behind them change nothing. Assumes nothing.
-use mathlib.Core.Path.{◌≡◌, sym, ap, ◌∙◌}
+use mathlib.Core.Path.{◌≡◌, sym, ap, subst, ◌∙◌}
 use mathlib.Core.List.{[], ◌∷◌, ◌++◌, append-nil, append_assoc}
-use Prim.Native.Nat.{ℕ, zero, suc, ◌+◌, ◌*◌, ◌/◌, ◌%◌, ◌^◌, ◌≤◌}
+use Prim.Native.Nat.{ℕ, zero, suc, ◌+◌, ◌-◌, ◌*◌, ◌/◌, ◌%◌, ◌^◌, ◌≤◌}
 use native.Mathlib.Nat.{add-zero, pow-suc, mul_assoc, mul_comm}
 use native.Mathlib.Omega.{arith}
 use lib.ListN.{replicate}
@@ -46,3 +46,8 @@ zeros-behind (suc k) w v =
     let tens : v * 10 ^ suc k ≡ v * 10 * 10 ^ k = rw pow-suc (ap (λ n. v * n) (mul_comm (10 ^ k) 10) ∙ sym (mul_assoc v 10 (10 ^ k))) in
     rw (width, tens)
     (zeros-behind k (suc w) (v * 10) ∙ ap (λ l. l ++ replicate k 48) (tenfold w v) ∙ append_assoc (digits w v) (48 ∷ []) (replicate k 48))
+
+pub zeros-behind-to-three : (places n : ℕ) → places ≤ 3 → digits 3 (thousandths places n) ≡ digits places n ++ replicate (3 - places) 48
+zeros-behind-to-three places n l =
+    let e : places + (3 - places) ≡ 3 = omega arith in
+    subst (λ w. digits w (thousandths places n) ≡ digits places n ++ replicate (3 - places) 48) e (zeros-behind (3 - places) places n)
