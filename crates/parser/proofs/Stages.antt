@@ -131,20 +131,21 @@ pub record Clock (t : Time) : Type 0 where
   pub second-to : (time_fields t).second ≤ 59
   pub decimals-ok : DecimalsBounds t
 
--- one to three digits after the point
-on-decimals : {C : Type 0} (h m sc : ℕ) {s t : List ℕ} {x : Time} → after (digits_upto 3) (decimals_of h m sc) s ≡ ok x t
+-- after the point: at least one digit, and at most three
+on-decimals : {C : Type 0} (n h m sc : ℕ) {s t : List ℕ} {x : Time} → after (digits_upto n) (decimals_of h m sc) s ≡ ok x t → n ≤ 3
     → ((places d : ℕ) → DecimalsBounds (toDecimals h m sc places d) → x ≡ toDecimals h m sc places d → s ≡ digits places d ++ t → C) → C
 unfolding decimals_of
-on-decimals {C} h m sc {s} {t} {x} e then = on-after (digits_upto 3) (decimals_of h m sc) e read
+on-decimals {C} n h m sc {s} {t} {x} e l then = on-after (digits_upto n) (decimals_of h m sc) e read
   where
-    pick : (v count : ℕ) (u : List ℕ) → (count ≤ 3) × Number count v s u → (z : Bool) → leb 1 count ≡ z → cond z (ok (toDecimals h m sc count v) u) (fault (no_digit u)) ≡ ok x t → C
-    pick v count u n true g e =
+    pick : (v count : ℕ) (u : List ℕ) {least : ℕ} (z : Bool) → cond z (ok (toDecimals h m sc count v) u) (fault (no_digit u)) ≡ ok x t → leb least count ≡ z → 1 ≤ least
+        → (count ≤ n) × Number count v s u → C
+    pick v count u {least} true e g k r =
         let q : u ≡ t = cc in
-        then count v (leb-true 1 count g, n.0, n.1.small) (cc) (n.1.word ∙ rw q)
-    pick v count u n false g e = cc
+        then count v (omega (arith, leb-true least count g), omega (arith, r.0), r.1.small) (cc) (r.1.word ∙ rw q)
+    pick v count u false e g k r = cc
 
-    read : (n : Taken) (u : List ℕ) → digits_upto 3 s ≡ ok n u → decimals_of h m sc n u ≡ ok x t → C
-    read (number v count) u h e = pick v count u (upto_read 3 h) (leb 1 count) refl e
+    read : (r : Taken) (u : List ℕ) → digits_upto n s ≡ ok r u → decimals_of h m sc r u ≡ ok x t → C
+    read (number v count) u h e = pick v count u _ e refl (omega arith) (upto_read n h)
 
 pub time-read : (s : List ℕ) (x : Time) (t : List ℕ) → read_time s ≡ ok x t → Part prints_time Clock s x t
 unfolding read_time read_second read_decimals
@@ -155,7 +156,7 @@ time-read s x t e =
     on-choose 58 _ _ e₃
     (λ r₃ q₃ e₄. on-field 0 59 _ e₄ λ sc r₄ _ ls q₄ e₅.
     on-choose 46 _ _ e₅
-    (λ r₅ q₅ e₆. on-decimals h m sc e₆ λ places d b p w.
+    (λ r₅ q₅ e₆. on-decimals _ h m sc e₆ (omega arith) λ places d b p w.
     part prints_time Clock (toDecimals h m sc places d) p (record { hour-to = lh; minute-to = lm; second-to = ls; decimals-ok = b })
     (rw (q, q₁, q₂, q₃, q₄, q₅, w)))
     (λ e₆. on-give (toSecond h m sc) e₆ λ p q₅.

@@ -352,9 +352,8 @@ fn decimals(text: &[u8], at: usize, hour: u32, minute: u32, second: u32) -> Read
     ensures { Reads (after (digits_upto 3) (decimals_of hour minute second)) text.now at (out as_time text.now result) }
 {
     let (decimals, places) = parse_n_ascii_digits(text, at, 3);
-    let next = at + places;
     if places == 0 {
-        return Err(no_digit(text, next));
+        return Err(no_digit(text, at));
     }
     Ok((
         Time::ToDecimals {
@@ -364,7 +363,7 @@ fn decimals(text: &[u8], at: usize, hour: u32, minute: u32, second: u32) -> Read
             places,
             decimals,
         },
-        next,
+        at + places,
     ))
 }
 
