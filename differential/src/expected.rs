@@ -1,5 +1,6 @@
 //! What each call must leave behind: the number by the reading of 01's table, the value and the
-//! text by the original. Where whole numbers say it too, the original is held to them.
+//! text by the original. Where whole numbers say it too, the original is held to them. Where 02
+//! parts from the original, it is asked with what is missing written in.
 
 use crate::case::{Case, setter_row};
 use crate::lower::Export;
@@ -112,9 +113,17 @@ fn accepted(sides: &Sides, case: &Case) -> Result<Vec<Record>, u32> {
 
 /// Reading, and rewriting where an output is lent.
 fn read(sides: &Sides, list: &[Record], text: &[u8], out: Option<&[u8]>) -> Expected {
-    let says =
-        (sides.text)(text).and_then(|form| whole::clip((sides.instant)(&form, list)).ok_or(9u32));
-    let does = (sides.parse)(text, &ZoneList::new(list));
+    let form = (sides.text)(text);
+    let says = form.and_then(|form| whole::clip((sides.instant)(&form, list)).ok_or(9u32));
+    let short = form.ok().filter(Form::is_short);
+    let zone = &ZoneList::new(list);
+    let does = match short {
+        Some(form) => (sides.parse)(&with_zeros(text, form.decimals), zone),
+        None => (sides.parse)(text, zone),
+    };
+    if let Some(t) = short.and_then(|_| (sides.parse)(text, zone)) {
+        return Expected::Parting(format!("02: the original refuses short decimals; it gives {t}"));
+    }
     match (says, does) {
         (Err(number), None) => Expected::Outcome(Outcome::refused(number, out.unwrap_or(&[]))),
         (Ok(t), Some(v)) if t == i128::from(v) => match out {
@@ -128,6 +137,14 @@ fn read(sides: &Sides, list: &[Record], text: &[u8], out: Option<&[u8]>) -> Expe
         },
         _ => Expected::Parting(format!("01 says {says:?}, the original {does:?}")),
     }
+}
+
+/// The text with the zeros that its decimals lack written in behind them: `.5` is `.500`. The
+/// original reads no fewer than three.
+pub fn with_zeros(text: &[u8], decimals: usize) -> Vec<u8> {
+    let point = text.iter().position(|b| *b == b'.').expect("decimals stand after a point");
+    let (start, rest) = text.split_at(point + 1 + decimals);
+    [start, &b"000"[decimals..], rest].concat()
 }
 
 /// A text by the original, held to the text by whole numbers.

@@ -1,6 +1,6 @@
-//! Document 01's refusal table, read from the paper: each fault with its number, first one first;
-//! and what an absent field of a record stands for. Nothing here was taken from the proved code or
-//! from the original.
+//! Document 01's refusal table, read from the paper, with what the change requests of 02 made of it:
+//! each fault with its number, first one first; and what an absent field of a record stands for.
+//! Nothing here was taken from the proved code or from the original.
 
 /// A record of a zone list: a second and the offset, in seconds, from it on.
 pub type Record = (i64, i32);
@@ -104,7 +104,16 @@ pub struct Form {
     pub minute: i64,
     pub second: i64,
     pub millisecond: i64,
+    /// How many decimals were written: none to three.
+    pub decimals: usize,
     pub zone: Zone,
+}
+
+impl Form {
+    /// One or two decimals. "The Rust refuses the short forms."
+    pub fn is_short(&self) -> bool {
+        matches!(self.decimals, 1 | 2)
+    }
 }
 
 /// The one reading from left to right, "where the first fault decides", then the rows below it.
@@ -172,9 +181,10 @@ impl Reading<'_> {
     /// The whole form, with nothing left over.
     fn form(&mut self) -> Result<Form, u32> {
         let (year, month, day, timed) = self.date()?;
-        let [hour, minute, second, millisecond] = if timed { self.time()? } else { [0; 4] };
+        let clock = if timed { self.time()? } else { ([0; 4], 0) };
+        let ([hour, minute, second, millisecond], decimals) = clock;
         let zone = if timed { self.zone()? } else { Zone::Utc };
-        Ok(Form { year, month, day, hour, minute, second, millisecond, zone })
+        Ok(Form { year, month, day, hour, minute, second, millisecond, decimals, zone })
     }
 
     /// What stands after a field of the date; a `T` is taken.
@@ -209,19 +219,34 @@ impl Reading<'_> {
     }
 
     /// "Hour 00 to 24, `:`, minute 00 to 59; optionally `:` and second 00 to 59; after a second
-    /// optionally `.` and exactly three digits."
-    fn time(&mut self) -> Result<[i64; 4], u32> {
+    /// optionally `.` and" decimals. Hour, minute, second and millisecond, and how many decimals.
+    fn time(&mut self) -> Result<([i64; 4], usize), u32> {
         let hour = self.field(2, 0, 24)?;
         self.mark(b':')?;
         let minute = self.field(2, 0, 59)?;
         if !self.takes(b':') {
-            return Ok([hour, minute, 0, 0]);
+            return Ok(([hour, minute, 0, 0], 0));
         }
         let second = self.field(2, 0, 59)?;
         if !self.takes(b'.') {
-            return Ok([hour, minute, second, 0]);
+            return Ok(([hour, minute, second, 0], 0));
         }
-        Ok([hour, minute, second, self.field(3, 0, 999)?])
+        let (millisecond, decimals) = self.decimals()?;
+        Ok(([hour, minute, second, millisecond], decimals))
+    }
+
+    /// "After the point one to three digits are now read, as tenths, hundredths or thousandths."
+    /// "A fourth digit is still 6, and no digit is 5 or 6." (02, change request 8.) Milliseconds,
+    /// and how many digits; a fourth one is left, and is 6 where a zone is to begin.
+    fn decimals(&mut self) -> Result<(i64, usize), u32> {
+        let mut value = 100 * self.field(1, 0, 9)?;
+        for (taken, worth) in [(1, 10), (2, 1)] {
+            if !self.rest.first().is_some_and(u8::is_ascii_digit) {
+                return Ok((value, taken));
+            }
+            value += worth * self.field(1, 0, 9)?;
+        }
+        Ok((value, 3))
     }
 
     /// "After any time, optionally `Z`, or a sign and offset hour 00 to 23, then optionally `:`

@@ -1,7 +1,7 @@
 //! The reading of 01 on every row and trap that the papers name, and the parts of the harness.
 
 use crate::case::{Case, Line, SETTERS, tags};
-use crate::expected::expected;
+use crate::expected::{expected, with_zeros};
 use crate::inputs::{NANS, UTC, list_bytes};
 use crate::outcome::NAN;
 use crate::paper;
@@ -111,7 +111,8 @@ fn ends_are_5() {
         (18, 5),
         (19, 0),
         (20, 5),
-        (22, 5),
+        (21, 0),
+        (22, 0),
         (23, 0),
         (24, 5),
         (25, 5),
@@ -121,6 +122,111 @@ fn ends_are_5() {
         (29, 0),
     ] {
         assert_eq!(number(&whole[..length]), due, "{}", &whole[..length]);
+    }
+}
+
+#[test]
+fn decimals_are_one_to_three() {
+    for (decimals, ms) in [
+        (".5", 500.0),
+        (".50", 500.0),
+        (".500", 500.0),
+        (".0", 0.0),
+        (".9", 900.0),
+        (".05", 50.0),
+        (".99", 990.0),
+        (".005", 5.0),
+        (".789", 789.0),
+    ] {
+        for zone in ["", "Z", "+00", "-00:00"] {
+            let text = format!("1970-01-01T00:00:00{decimals}{zone}");
+            assert_eq!(read(&text), (0, f64::to_bits(ms)), "{text}");
+        }
+    }
+    assert_eq!(read("1970-01-01T00:00:00.5+01:00"), (0, (-3_599_500.0f64).to_bits()));
+    for (end, due) in [
+        (".", 5),
+        (".Z", 6),
+        (".+01", 6),
+        (".x", 6),
+        ("..5", 6),
+        (".5000", 6),
+        (".50000", 6),
+        (".500.", 6),
+        (".5.", 6),
+        (".5x", 6),
+        (".5 ", 6),
+        (".5:", 6),
+        (".5/", 6),
+        (".5+", 5),
+        (".5+0", 5),
+        (".5+24", 7),
+        (".50+23:60", 7),
+        (".5+01x", 6),
+        (".5Zx", 8),
+        (".50+01:00x", 8),
+    ] {
+        assert_eq!(number(&format!("2023T12:00:00{end}")), due, "{end}");
+    }
+}
+
+#[test]
+fn hour_24_takes_decimals_that_are_0() {
+    for end in [".0", ".00", ".000", ".0Z", ".00-05:30", ".0+05"] {
+        assert_eq!(number(&format!("2023T24:00:00{end}")), 0, "{end}");
+    }
+    for end in [".1", ".10", ".01", ".1Z", ".01+05", ".10-05:30"] {
+        assert_eq!(number(&format!("2023T24:00:00{end}")), 7, "{end}");
+    }
+    assert_eq!(read("1970-01-01T24:00:00.0"), (0, 86_400_000f64.to_bits()));
+    // 5, 6 and 8 stand before that row, and it stands before 9.
+    assert_eq!(number("2023T24:00:00.1+"), 5);
+    assert_eq!(number("2023T24:00:00.1x"), 6);
+    assert_eq!(number("2023T24:00:00.1Zx"), 8);
+    assert_eq!(number("+999999T24:00:00.1"), 7);
+    assert_eq!(number("+999999T24:00:00.0"), 9);
+}
+
+#[test]
+fn the_form_keeps_how_many_decimals() {
+    let form = |end: &str| paper::text(format!("2023T12:00{end}").as_bytes()).unwrap();
+    for (end, decimals, ms) in
+        [("", 0, 0), (":00", 0, 0), (":00.5", 1, 500), (":00.05Z", 2, 50), (":00.050+01", 3, 50)]
+    {
+        let form = form(end);
+        assert_eq!((form.decimals, form.millisecond), (decimals, ms), "{end}");
+        assert_eq!(form.is_short(), [1, 2].contains(&decimals), "{end}");
+    }
+}
+
+/// Where 02 parts from the Rust.
+#[test]
+fn the_original_refuses_short_decimals() {
+    let zone = &ZoneList::new(&UTC);
+    let parse = |text: &[u8]| original::parse(text, zone);
+    for zone in ["", "Z", "+00", "-00:00"] {
+        for decimals in [".5", ".50", ".0", ".00"] {
+            let text = format!("1970-01-01T00:00:00{decimals}{zone}");
+            assert_eq!(parse(text.as_bytes()), None, "{text}");
+        }
+        assert_eq!(parse(format!("1970-01-01T00:00:00.500{zone}").as_bytes()), Some(500));
+    }
+    assert_eq!(with_zeros(b"2023T12:00:00.5Z", 1), b"2023T12:00:00.500Z");
+    assert_eq!(with_zeros(b"2023T12:00:00.05", 2), b"2023T12:00:00.050");
+}
+
+#[test]
+fn rewriting_prints_three_decimals() {
+    let zone = &list_bytes(&UTC);
+    for (text, due) in [
+        ("2023-01-01T12:00:00.5Z", "2023-01-01T12:00:00.500Z"),
+        ("2023-01-01T12:00:00.05+01:00", "2023-01-01T11:00:00.050Z"),
+        ("2023-01-01T24:00:00.0", "2023-01-02T00:00:00.000Z"),
+    ] {
+        let case = Case::Rewrite { zone, text: text.as_bytes(), out: &[0; 24] };
+        let outcome = expected(&case).outcome().unwrap();
+        assert_eq!((outcome.number, outcome.length), (0, 24), "{text}");
+        assert_eq!(outcome.out, due.as_bytes(), "{text}");
     }
 }
 
@@ -150,6 +256,11 @@ fn nine_is_after_the_offset() {
     assert_eq!(number("-271821-04-19T23:00-01:00"), 0);
     assert_eq!(number("-271821-04-19T23:00+01:00"), 9);
     assert_eq!(number("+999999-12-31T23:59:59.999-23:59"), 9);
+    assert_eq!(read("+275760-09-13T00:00:00.0Z"), (0, 8.64e15f64.to_bits()));
+    assert_eq!(number("+275760-09-13T00:00:00.1Z"), 9);
+    assert_eq!(number("+275760-09-13T00:00:00.01Z"), 9);
+    assert_eq!(number("-271821-04-19T23:59:59.9Z"), 9);
+    assert_eq!(number("-271821-04-19T23:59:59.9-00:01"), 0);
 }
 
 #[test]
