@@ -1,7 +1,7 @@
 //! Texts to be read: every form, edges, and damaged copies.
 
 use crate::inputs::{YEARS, time};
-use crate::paper::Record;
+use crate::paper::{self, Record};
 use crate::random::Random;
 use crate::whole;
 
@@ -61,10 +61,36 @@ fn date(r: &mut Random) -> String {
     text
 }
 
+/// Times of hour 24: accepted where all that follows is 0.
+const HOUR_24: [&str; 9] = [
+    "T24:00",
+    "T24:00:00",
+    "T24:00:00.000",
+    "T24:00:00.001",
+    "T24:00:00.0",
+    "T24:00:00.00",
+    "T24:00:00.1",
+    "T24:00:00.10",
+    "T24:01",
+];
+
+/// What stands after the point: mostly three digits, often one or two, now and then none or four.
+fn decimals(r: &mut Random) -> String {
+    let digits = match r.below(32) {
+        0 => 0,
+        1 => 4,
+        2..=8 => 1,
+        9..=15 => 2,
+        _ => 3,
+    };
+    let value = if r.once_in(4) { 0 } else { r.between(0, 9999) };
+    format!("{value:04}")[..digits].into()
+}
+
 /// A time, without its zone; hour 24 often with nothing after it.
 fn clock(r: &mut Random) -> String {
     if r.once_in(12) {
-        return r.pick(&["T24:00", "T24:00:00", "T24:00:00.000", "T24:00:00.001", "T24:01"]).into();
+        return r.pick(&HOUR_24).into();
     }
     let mut text = format!("T{}:{}", two(r, 0, 24), two(r, 0, 59));
     if r.once_in(3) {
@@ -74,8 +100,7 @@ fn clock(r: &mut Random) -> String {
     if r.once_in(3) {
         return text;
     }
-    let decimals = if r.once_in(4) { 0 } else { r.between(0, 999) };
-    text + &format!(".{decimals:03}")
+    format!("{text}.{}", decimals(r))
 }
 
 /// What follows a time.
@@ -88,12 +113,21 @@ fn zone(r: &mut Random) -> String {
     }
 }
 
-/// A text of some form, mostly accepted; one in six is a local time at a record's second.
+/// The text without some of the zeros that its decimals, and it, end with.
+pub fn fewer_zeros(r: &mut Random, mut text: String) -> String {
+    while text.ends_with('0') && !text.ends_with(".0") && r.once_in(2) {
+        text.pop();
+    }
+    text
+}
+
+/// A text of some form, mostly accepted; one in six is a local time at a record's second, often
+/// without last zeros of its decimals.
 pub fn form(r: &mut Random, list: &[Record]) -> Vec<u8> {
     if r.once_in(6) {
         let mut text = whole::iso_text(time(r, list).into());
         text.pop();
-        return text.into_bytes();
+        return fewer_zeros(r, text).into_bytes();
     }
     let mut text = date(r);
     if !r.once_in(4) {
@@ -101,6 +135,16 @@ pub fn form(r: &mut Random, list: &[Record]) -> Vec<u8> {
         text += &zone(r);
     }
     text.into_bytes()
+}
+
+/// Where the decimals of a text begin and how many digits stand there, fourth and further ones
+/// too, where the reading comes to them.
+pub fn decimals_of(text: &[u8]) -> Option<(usize, usize)> {
+    let start = text.iter().position(|b| *b == b'.')? + 1;
+    // Up to the point alone, a text ends where a digit is needed.
+    let comes = paper::text(&text[..start]) == Err(5);
+    let digits = text[start..].iter().take_while(|b| b.is_ascii_digit()).count();
+    comes.then_some((start, digits))
 }
 
 /// A copy with one thing wrong: a byte changed, dropped, doubled, put in, or the end cut off.
@@ -119,13 +163,25 @@ pub fn damaged(r: &mut Random, mut text: Vec<u8>) -> Vec<u8> {
     text
 }
 
+/// A time of every form.
+const CLOCKS: [&str; 8] = [
+    "T12:34",
+    "T12:34:56",
+    "T12:34:56.7",
+    "T12:34:56.78",
+    "T12:34:56.789",
+    "T24:00",
+    "T24:00:00.0",
+    "T24:00:00.000",
+];
+
 /// One text of every form: each kind of year, date, time and zone.
 pub fn every_form() -> Vec<String> {
     let mut all = Vec::new();
     for year in ["2024", "+002024", "-000001", "0000", "+275760", "-271821"] {
         for date in ["", "-02", "-02-29", "-04-20"] {
             all.push(format!("{year}{date}"));
-            for clock in ["T12:34", "T12:34:56", "T12:34:56.789", "T24:00", "T24:00:00.000"] {
+            for clock in CLOCKS {
                 for zone in ["", "Z", "+05", "-05", "+05:45", "-23:59"] {
                     all.push(format!("{year}{date}{clock}{zone}"));
                 }

@@ -1,6 +1,6 @@
 //! docs/DIFFERENCES.md, row by row, where a row is a call: the original must show what it says. An
-//! absent first field is written into its call, which shows what the port says. The stored sample
-//! takes every one of them.
+//! absent first field is written into its call, and so are the zeros that short decimals lack, which
+//! shows what the port says. The stored sample takes every one of them.
 
 use super::Family;
 use super::marked::{Gives, record, row};
@@ -14,6 +14,7 @@ pub const FAMILIES: &[Family] = &[Family { name: "differences", run: differences
 
 fn differences(run: &mut Run) {
     texts(run);
+    short_decimals(run);
     local_dates(run);
     local_texts(run);
     fields(run);
@@ -36,6 +37,20 @@ fn texts(run: &mut Run) {
     ];
     for (text, list, gives) in rows {
         let zone = &list_bytes(list);
+        row(run, &Case::Read { zone, text: text.as_bytes() }, &gives);
+    }
+}
+
+/// The smallest text with short decimals, by length and then by bytes; half a second; a hundredth
+/// with its zero in front. More than three decimals are read by V8 alone.
+fn short_decimals(run: &mut Run) {
+    let zone = &list_bytes(&UTC);
+    for (text, gives) in [
+        ("0000T00:00:00.0", Gives::Time(-62_167_219_200_000)),
+        ("1970T00:00:00.5", Gives::Time(500)),
+        ("1970T00:00:00.05", Gives::Time(50)),
+        ("0000T00:00:00.0000", Gives::Number(6)),
+    ] {
         row(run, &Case::Read { zone, text: text.as_bytes() }, &gives);
     }
 }

@@ -5,6 +5,7 @@ use crate::run::Run;
 mod build;
 mod calendar;
 mod cancel;
+mod decimals;
 mod differences;
 mod digits;
 mod facts;
@@ -31,6 +32,7 @@ pub fn all() -> Vec<Family> {
         read::FAMILIES,
         facts::FAMILIES,
         rewrite::FAMILIES,
+        decimals::FAMILIES,
         set::FAMILIES,
         build::FAMILIES,
         cancel::FAMILIES,

@@ -5,7 +5,7 @@ use crate::case::Case;
 use crate::expected::expected;
 use crate::inputs::{UTC, list, list_bytes, time};
 use crate::run::Run;
-use crate::texts::{damaged, every_form, form};
+use crate::texts::{damaged, every_form, fewer_zeros, form};
 use crate::whole;
 
 pub const FAMILIES: &[Family] = &[
@@ -17,7 +17,19 @@ pub const FAMILIES: &[Family] = &[
 /// Every form, and one of each refusal, into outputs of every length 0 to 40.
 fn lengths(run: &mut Run) {
     let zone = &list_bytes(&[(0, 3600)]);
-    let refused = ["", "20", "2023-1x", "2023-13", "2023-01-01x", "2023T24:01", "+275761", "x"];
+    let refused = [
+        "",
+        "20",
+        "2023-1x",
+        "2023-13",
+        "2023-01-01x",
+        "2023T24:01",
+        "2023T24:00:00.1",
+        "2023T12:00:00.",
+        "2023T12:00:00.5000",
+        "+275761",
+        "x",
+    ];
     let forms = every_form();
     for text in forms.iter().map(String::as_str).chain(refused) {
         for length in 0..=40 {
@@ -63,7 +75,7 @@ fn again(run: &mut Run, case: &Case) {
 }
 
 /// Two texts under one list rewrite to equal bytes exactly when they denote one instant: an ISO
-/// text, and a text with an offset for the same moment or one beside it.
+/// text, and a text with an offset, and maybe fewer decimals, for the same moment or one beside it.
 fn pairs(run: &mut Run) {
     let out = &[b'~'; 27];
     for _ in 0..run.times(50_000) {
@@ -74,6 +86,7 @@ fn pairs(run: &mut Run) {
         let beside = i128::from(run.random.pick(&[0, 0, 1, -1, 60_000]));
         let mut other = whole::iso_text(t + beside + 60_000 * i128::from(minutes));
         other.pop();
+        other = fewer_zeros(&mut run.random, other);
         let sign = if minutes < 0 { '-' } else { '+' };
         other += &format!("{sign}{:02}:{:02}", minutes.abs() / 60, minutes.abs() % 60);
         let first = whole::iso_text(t);
