@@ -2,6 +2,7 @@
 //! run must catch each; a stand-in that answers by the right sides takes the archive's place.
 
 use crate::bite_answers::ANSWERS;
+use crate::bite_decimals::DECIMALS;
 use crate::bite_makers::MAKERS;
 use crate::bite_sides::SIDES;
 use crate::case::Case;
@@ -73,7 +74,7 @@ pub fn all(seed: u64, threads: usize) -> bool {
         println!("the right stand-in fails in {family}: {line}");
         return false;
     }
-    let bites: Vec<Bite> = [ANSWERS, MAKERS, SIDES].concat();
+    let bites: Vec<Bite> = [ANSWERS, DECIMALS, MAKERS, SIDES].concat();
     let (next, missed) = (AtomicUsize::new(0), AtomicUsize::new(0));
     std::thread::scope(|scope| {
         for _ in 0..threads {

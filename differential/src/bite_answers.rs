@@ -10,7 +10,8 @@ use crate::standard::slots;
 use crate::whole;
 use original::exports::Setter;
 
-const fn answer(name: &'static str, wrong: WrongAnswer) -> Bite {
+/// A bite of the answers.
+pub const fn answer(name: &'static str, wrong: WrongAnswer) -> Bite {
     Bite { name, wrong: Wrong::Answer(wrong) }
 }
 
@@ -111,7 +112,7 @@ pub const ANSWERS: &[Bite] = &[
 ];
 
 /// The right outcome of another case.
-fn by(case: Case) -> Option<Outcome> {
+pub fn by(case: Case) -> Option<Outcome> {
     expected(&case).outcome()
 }
 
@@ -119,7 +120,8 @@ fn renumbered(o: &Outcome, from: u32, to: u32) -> Option<Outcome> {
     (o.number == from).then(|| Outcome { number: to, ..o.clone() })
 }
 
-fn text_of<'a>(case: &Case<'a>) -> Option<&'a [u8]> {
+/// The text that a call is given.
+pub fn text_of<'a>(case: &Case<'a>) -> Option<&'a [u8]> {
     match *case {
         Case::Read { text, .. } | Case::Rewrite { text, .. } => Some(text),
         _ => None,
@@ -127,7 +129,7 @@ fn text_of<'a>(case: &Case<'a>) -> Option<&'a [u8]> {
 }
 
 /// The same call with another text.
-fn with_text<'a>(case: &Case<'a>, text: &'a [u8]) -> Option<Case<'a>> {
+pub fn with_text<'a>(case: &Case<'a>, text: &'a [u8]) -> Option<Case<'a>> {
     match *case {
         Case::Read { zone, .. } => Some(Case::Read { zone, text }),
         Case::Rewrite { zone, out, .. } => Some(Case::Rewrite { zone, text, out }),

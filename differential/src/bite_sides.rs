@@ -2,8 +2,10 @@
 //! sides parting from each other.
 
 use crate::bite::{Bite, Wrong};
-use crate::expected::{RIGHT, Sides};
+use crate::bite_decimals;
+use crate::expected::{RIGHT, Sides, with_zeros};
 use crate::paper::{self, Fields, Form, Record, Zone};
+use crate::texts::decimals_of;
 use crate::whole;
 use ::original::exports::{self as original, Setter, ZoneList};
 
@@ -17,6 +19,11 @@ pub const SIDES: &[Bite] = &[
     sides("reading: a byte above 127 is 5", Sides { text: high_bytes, ..RIGHT }),
     sides("reading: small t and z", Sides { text: small_letters, ..RIGHT }),
     sides("reading: offset hour 24", Sides { text: offset_hour_24, ..RIGHT }),
+    sides("reading: three decimals demanded", Sides { text: three_demanded, ..RIGHT }),
+    sides("reading: .5 is 5 ms", Sides { text: tenths_as_thousandths, ..RIGHT }),
+    sides("reading: a fourth decimal", Sides { text: fourth_decimal, ..RIGHT }),
+    sides("reading: no decimal is 0", Sides { text: no_decimal, ..RIGHT }),
+    sides("reading: short decimals kept as three", Sides { text: kept_as_three, ..RIGHT }),
     sides("reading: offset at the instant", Sides { instant: offset_at_instant, ..RIGHT }),
     sides("reading: 1,025 records", Sides { zone_list: one_more_record, ..RIGHT }),
     sides("reading: equal seconds", Sides { zone_list: equal_seconds, ..RIGHT }),
@@ -25,6 +32,8 @@ pub const SIDES: &[Bite] = &[
     sides("reading: absent first field is NaN", Sides { setter_parts: absent_first_nan, ..RIGHT }),
     sides("original: one millisecond off", Sides { parse: off_by_one, ..RIGHT }),
     sides("original: accepts one more day", Sides { parse: one_more_day, ..RIGHT }),
+    sides("original: accepts short decimals", Sides { parse: short_accepted, ..RIGHT }),
+    sides("original: refuses .500 too", Sides { parse: half_refused, ..RIGHT }),
     sides("original: local setter as UTC", Sides { set: set_as_utc, ..RIGHT }),
 ];
 
@@ -57,6 +66,35 @@ fn offset_hour_24(text: &[u8]) -> Result<Form, u32> {
         Some(start) => paper::text(&[start, b"+23"].concat()),
         None => paper::text(text),
     }
+}
+
+/// The reading of before, as the Rust's: a parting that 02 names.
+fn three_demanded(text: &[u8]) -> Result<Form, u32> {
+    bite_decimals::three_demanded(text).map_or_else(|| paper::text(text), Err)
+}
+
+fn tenths_as_thousandths(text: &[u8]) -> Result<Form, u32> {
+    let form = paper::text(text)?;
+    let millisecond = if form.decimals == 1 { form.millisecond / 100 } else { form.millisecond };
+    Ok(Form { millisecond, ..form })
+}
+
+fn fourth_decimal(text: &[u8]) -> Result<Form, u32> {
+    match decimals_of(text) {
+        Some((start, 4)) => paper::text(&[&text[..start + 3], &text[start + 4..]].concat()),
+        _ => paper::text(text),
+    }
+}
+
+fn no_decimal(text: &[u8]) -> Result<Form, u32> {
+    match decimals_of(text) {
+        Some((_, 0)) => paper::text(&with_zeros(text, 0)),
+        _ => paper::text(text),
+    }
+}
+
+fn kept_as_three(text: &[u8]) -> Result<Form, u32> {
+    paper::text(text).map(|form| if form.is_short() { Form { decimals: 3, ..form } } else { form })
 }
 
 /// The standard's instant: a parting that 01 names.
@@ -103,6 +141,17 @@ fn off_by_one(text: &[u8], zone: &ZoneList) -> Option<i64> {
 
 fn one_more_day(text: &[u8], zone: &ZoneList) -> Option<i64> {
     original::parse(text, zone).or_else(|| (text == b"-271821-04-19").then_some(0))
+}
+
+fn short_accepted(text: &[u8], zone: &ZoneList) -> Option<i64> {
+    let form = paper::text(text).ok().filter(Form::is_short);
+    let text = form.map_or(text.to_vec(), |form| with_zeros(text, form.decimals));
+    original::parse(&text, zone)
+}
+
+/// What the original answers where the zeros are written in counts, too.
+fn half_refused(text: &[u8], zone: &ZoneList) -> Option<i64> {
+    original::parse(text, zone).filter(|_| !text.ends_with(b".500"))
 }
 
 fn set_as_utc(setter: Setter, _: Option<&ZoneList>, t: f64, args: &[f64]) -> f64 {

@@ -4,6 +4,7 @@
 
 mod bite;
 mod bite_answers;
+mod bite_decimals;
 mod bite_makers;
 mod bite_sides;
 mod case;
