@@ -23,23 +23,28 @@ pub const FAMILIES: &[Family] = &[
 /// Room for every ISO text.
 const OUT: &[u8] = &[b'~'; 27];
 
-/// Read and rewritten; where its decimals are one or two, the twin must have the same outcome.
+/// Read and rewritten.
 fn both(run: &mut Run, zone: &[u8], text: &[u8]) {
     run.check(&Case::Read { zone, text });
-    let rewritten = Case::Rewrite { zone, text, out: OUT };
-    run.check(&rewritten);
+    rewritten(run, zone, text);
+}
+
+/// Read, which gives this, and rewritten.
+fn gives(run: &mut Run, zone: &[u8], text: &[u8], gives: Gives) {
+    row(run, &Case::Read { zone, text }, &gives);
+    rewritten(run, zone, text);
+}
+
+/// Where the decimals are one or two, the twin must have the same outcome.
+fn rewritten(run: &mut Run, zone: &[u8], text: &[u8]) {
+    let case = Case::Rewrite { zone, text, out: OUT };
+    run.check(&case);
     let Some((_, digits @ 1..=2)) = decimals_of(text) else {
         return;
     };
     let twin = Case::Rewrite { zone, text: &with_zeros(text, digits), out: OUT };
-    let same = expected(&rewritten).outcome() == expected(&twin).outcome();
-    run.fact(same, || format!("not as with its zeros: {}", rewritten.line()));
-}
-
-/// Read, and the fact that it gives this.
-fn gives(run: &mut Run, zone: &[u8], text: &[u8], gives: Gives) {
-    both(run, zone, text);
-    row(run, &Case::Read { zone, text }, &gives);
+    let same = expected(&case).outcome() == expected(&twin).outcome();
+    run.fact(same, || format!("not as with its zeros: {}", case.line()));
 }
 
 /// Every value of one, two and three digits.
@@ -61,10 +66,10 @@ fn one_value(run: &mut Run, decimals: &str, ms: i64) {
         [("Z", 0), ("+00", 0), ("-00:00", 0), ("+01", 60), ("-23", -1380), ("-23:59", -1439)]
     {
         let text = format!("{text}{suffix}");
-        gives(run, west, text.as_bytes(), Gives::Time(ms - 60_000 * ahead));
-        both(run, utc, text.as_bytes());
+        gives(run, utc, text.as_bytes(), Gives::Time(ms - 60_000 * ahead));
     }
-    both(run, utc, format!("2024-02-29T23:59:59.{decimals}+05:45").as_bytes());
+    both(run, west, format!("{text}Z").as_bytes());
+    both(run, west, format!("2024-02-29T23:59:59.{decimals}+05:45").as_bytes());
 }
 
 /// What the table says of so many digits and then a byte, or the end.
@@ -240,6 +245,44 @@ fn random(run: &mut Run) {
         }
         if run.done() {
             return;
+        }
+    }
+}
+
+#[cfg(test)]
+mod tests {
+    use super::*;
+    use crate::outcome::Outcome;
+    use crate::random::Random;
+    use std::collections::BTreeMap;
+
+    #[test]
+    fn forms_have_decimals_of_every_number() {
+        let (r, mut counts) = (&mut Random::new(1, "forms"), [0; 5]);
+        for _ in 0..20_000 {
+            if let Some((_, digits)) = decimals_of(&form(r, &UTC)) {
+                counts[digits] += 1;
+            }
+        }
+        let [none, one, two, three, four] = counts;
+        assert!(none.min(four) > 100 && one.min(two) > 1000, "{counts:?}");
+        assert!(three > one.max(two) && one.min(two) > none.max(four), "{counts:?}");
+    }
+
+    #[test]
+    fn short_texts_in_number_read_and_refused() {
+        let mut counts = BTreeMap::<(usize, u32), u64>::new();
+        let mut collector = |case: &Case, outcome: &Outcome| {
+            if let Some((_, digits @ 1..=2)) = decimals_of(case.input()) {
+                *counts.entry((digits, outcome.number)).or_default() += 1;
+            }
+        };
+        random(&mut Run::collecting("decimals_random", 1, &mut collector));
+        for (digits, number) in [1, 2].into_iter().flat_map(|d| [0, 5, 6, 7, 8, 9].map(|n| (d, n)))
+        {
+            let count = counts.get(&(digits, number)).copied().unwrap_or(0);
+            let least = if number == 0 { 1000 } else { 10 };
+            assert!(count > least, "{digits} decimals, {number}: {counts:?}");
         }
     }
 }
