@@ -1,7 +1,8 @@
 // A second, independent peer: V8's Date, by node, on stored lines of the original's answers (README.md, "Lines").
 //   TZ=ZONE node differential/peer/peer.mjs FOLDER        FOLDER/stdin has the cases, FOLDER/stdout the answers
 // UTC calls are asked, and local ones whose list is the zone's. Each case is compared; a difference of a known class (docs/DIFFERENCES.md) is
-// counted with its first input, any other one fails the run.
+// counted with its first input, any other one fails the run. The original's answer to fewer than three decimals, which it refuses and V8 reads,
+// is the one to the text with the missing zeros.
 import { readFileSync } from "node:fs";
 
 const folder = process.argv[2];
@@ -145,9 +146,16 @@ function makeDayClass([year, month, date], ours, peer) {
     return undefined;
 }
 
+// Fourth and further decimals, which V8 reads and leaves out.
+function readWithThree({ text, peer }) {
+    const three = text.replace(/(:\d\d\.\d{3})\d+/, "$1");
+    return three !== text && same(peer, Date.parse(three));
+}
+
 // Known classes of difference in UTC, by the case: the name, or undefined where the two must agree.
 function known(tag, words, call, refused, ours) {
     if (tag === "READ") {
+        if (refused === 6 && readWithThree(call)) return "V8 reads more than three decimals";
         if (refused !== 0) return "V8 reads forms of its own (legacy parser)";
         if (/[+-]\d\d$/.test(call.text) && call.text.includes("T")) return "an offset without minutes is Boa's extension";
     }
@@ -165,6 +173,7 @@ function canBeAsked(tag, words, refused) {
 
 let compared = 0;
 let skipped = 0;
+const short = { read: 0, refused: 0 }; // texts with one or two decimals
 const classes = new Map();
 const failures = [];
 cases.forEach((line, i) => {
@@ -178,6 +187,7 @@ cases.forEach((line, i) => {
     const ours = written ? bytes(output).toString("latin1").slice(0, parseInt(length, 16)) : valued;
     const agrees = written ? ours === call.peer : same(ours, call.peer);
     compared++;
+    if (/T\d\d:\d\d:\d\d\.\d{1,2}(?!\d)/.test(call.text)) short[refused === 0 ? "read" : "refused"]++;
     // In a zone the two differ exactly where the local rule says so.
     const due = utc ? undefined : localClass(tag, words, call);
     if (agrees && due === undefined) return;
@@ -190,6 +200,7 @@ cases.forEach((line, i) => {
 
 const zone = process.env.TZ;
 for (const [name, seen] of classes) console.log(`${zone}: ${name}: ${seen.count}, as '${seen.first}': ours ${seen.ours}, V8 ${seen.peer}`);
+console.log(`${zone}: ${short.read + short.refused} texts with one or two decimals, ${short.read} read and ${short.refused} refused`);
 failures.sort((a, b) => a.length - b.length);
 for (const failure of failures.slice(0, 10)) console.log(`differs: ${failure}`);
 console.log(`${zone}: ${compared} compared with V8, ${skipped} that V8 cannot be asked, ${failures.length} failed`);

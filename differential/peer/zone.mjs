@@ -62,7 +62,7 @@ const setters = { LMIL: [6, 1], LSEC: [5, 2], LMIN: [4, 3], LHOU: [3, 4], LDAT: 
 const lines = [];
 for (let i = 0; i < count; i++) {
     const clock = new Date(time()); // read off the clock, as if it were UTC
-    const text = clock.toISOString().slice(0, [16, 19, 23][below(3)]);
+    const text = clock.toISOString().slice(0, [16, 19, 21, 22, 23][below(5)]); // to the minute, the second, with one to three decimals
     lines.push(`READ ${list} ${Buffer.from(text).toString("hex")}`);
     lines.push(`WLOC ${list} ${word(time())} ${"7e".repeat(36)}`);
     const day = [clock.getUTCFullYear(), clock.getUTCMonth(), clock.getUTCDate()];
