@@ -10,7 +10,7 @@ use native.Mathlib.Decide.{dec_le}
 use lib.Dec.{eqb}
 use lib.IntN.{ℤ}
 use borrow.Author.Tests.{eqb-true, eq-eqb, ne_eqb}
-use Rattle.ecma262.specs.Format.{Time, Form, Bounds, Writes, prints, thousandths}
+use Rattle.ecma262.specs.Format.{Time, Form, Bounds, Writes, prints, thousandths, form_fields}
 use Rattle.ecma262.specs.Format.Time.{toSecond, toDecimals}
 use Rattle.ecma262.specs.Format.Form.{date, timed}
 use Rattle.ecma262.proofs.Decimals.{three-decimals, ms_below}
@@ -66,12 +66,18 @@ module _ (zone : List ℕ) where
       own : Writes f (prints f)
       own = record { bounds = b; printed = refl }
 
+  same-ms : (f : Form) → (form_fields (with_three f)).ms ≡ (form_fields f).ms
+  same-ms (date y d) = refl
+  same-ms (timed y d (Time.toMinute h m) z) = refl
+  same-ms (timed y d (toSecond h m s) z) = refl
+  same-ms (timed y d (toDecimals h m s places decimals) z) = omega arith
+
   same-instant : (f : Form) → instant_of (records zone) (with_three f) ≡ instant_of (records zone) f
   unfolding instant_of
   same-instant (date y d) = refl
   same-instant (timed y d (Time.toMinute h m) z) = refl
   same-instant (timed y d (toSecond h m s) z) = refl
-  same-instant (timed y d (toDecimals h m s places decimals) z) = rw (three-decimals (thousandths places decimals))
+  same-instant (timed y d (toDecimals h m s places decimals) z) = rw (same-ms (timed y d (toDecimals h m s places decimals) z))
 
   three-bounds : (f : Form) → Bounds f → Bounds (with_three f)
   three-bounds (date y d) b = b
