@@ -67,13 +67,14 @@ enum zovattha_number {
 
 /*
  * The reader: the instant that a text denotes, as a time value; length 0. A date alone is UTC; a time without zone is local by the list,
- * near a change of offset by the rule above, which can be an hour off. Refusals 1, 5, 6, 7, 8, 9.
+ * near a change of offset by the rule above, which can be an hour off. A second may have one to three decimals, as tenths, hundredths or
+ * thousandths: .5 and .500 are half a second. Refusals 1, 5, 6, 7, 8, 9.
  */
 zovattha_answer zovattha_read(const uint8_t *zone, size_t zone_len, const uint8_t *text, size_t text_len);
 
 /*
- * Rewriting: reads a text and writes its instant's ISO text. Answers the instant and the length, 24 or 27. Two texts that denote one
- * instant are written as equal bytes, and rewriting such bytes again gives the same. The reader's refusals, then 11.
+ * Rewriting: reads a text and writes its instant's ISO text, always with three decimals. Answers the instant and the length, 24 or 27. Two
+ * texts that denote one instant are written as equal bytes, and rewriting such bytes again gives the same. The reader's refusals, then 11.
  */
 zovattha_answer zovattha_rewrite(const uint8_t *zone, size_t zone_len, const uint8_t *text, size_t text_len, uint8_t *out, size_t out_len);
 

@@ -11,13 +11,15 @@ pub const LAST_TIME: f64 = 8_640_000_000_000_000.0;
 pub const LONGEST_TEXT: usize = 36;
 
 /// The instant that a text denotes. A date alone is UTC; a time without zone is local by the list, and
-/// can be an hour off [near a change of offset](crate#local-times-near-a-change-of-offset).
+/// can be an hour off [near a change of offset](crate#local-times-near-a-change-of-offset). A second may
+/// have one to three decimals: `.5` and `.500` are half a second.
 ///
 /// ```
 /// use zovattha::{Refusal, ZoneList, read};
 ///
 /// let utc = ZoneList::utc();
 /// assert_eq!(read(&utc, "2024-02-29T12:00:00Z"), Ok(1709208000000.0));
+/// assert_eq!(read(&utc, "2024-02-29T12:00:00.5Z"), Ok(1709208000500.0));
 /// assert_eq!(read(&utc, "2023-12-31T24:00:01Z"), Err(Refusal::TextField));
 /// assert_eq!(read(&utc, b"\xFF"), Err(Refusal::TextByte));
 /// ```
@@ -63,6 +65,7 @@ pub fn rewrite_into<'a>(
 /// let zone = zovattha::ZoneList::utc();
 /// let rewrite = |text| zovattha::rewrite(&zone, text);
 /// assert_eq!(rewrite("2024-06-01T20:15+02:00"), rewrite("2024-06-01T18:15:00.000Z"));
+/// assert_eq!(rewrite("2024-06-01T18:15:00.5Z").unwrap(), "2024-06-01T18:15:00.500Z");
 /// ```
 ///
 /// # Errors
