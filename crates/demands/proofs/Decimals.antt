@@ -15,7 +15,7 @@ use Rattle.ecma262.specs.Format.Time.{toSecond, toDecimals}
 use Rattle.ecma262.specs.Format.Form.{date, timed}
 use Rattle.ecma262.proofs.Decimals.{three-decimals, ms_below}
 use Rattle.zone.specs.Zone.{records}
-use Rattle.parser.specs.declared.Fault.TheVariants.{Bad}
+use Rattle.parser.specs.declared.Fault.{Fault}
 use Rattle.parser.specs.Reading.{Out, ok, fault, Number, number, bind, after, is_digit, digits_after, digits_upto, no_digit, all_of, all_digits, decimals_of}
 use Rattle.parser.proofs.Accepts.{form-unique}
 use Rattle.reader.specs.Denotes.{instant_of, Denotes}
@@ -30,8 +30,8 @@ by-decimals (timed y d (Time.toMinute h m) z) b = inl tt
 by-decimals (timed y d (toSecond h m s) z) b = inl tt
 by-decimals (timed y d (toDecimals h m s places decimals) z) b = go (dec_le places 2)
   where
-    go : Dec (places ≤ 2) → (places ≡ 3) ⊎ (places ≤ 2)
-    go (yes l) = inr l
+    go : Dec (places ≤ 2) → ThreeOrNone (timed y d (toDecimals h m s places decimals) z) ⊎ Short (timed y d (toDecimals h m s places decimals) z)
+    go (yes l) = inr (omega (arith, l))
     go (no n) = inl (omega (arith, n, b.2.decimals-ok.1))
 
 not-both : (f : Form) → ThreeOrNone f → Short f → ⊥
@@ -113,12 +113,12 @@ as-before : (n v count m : ℕ) (s : List ℕ) → m ≡ count + n → bind (dig
 unfolding digits_after all_of digits_before
 as-before zero v count m s e = let c : count ≡ m = omega arith in rw (eq-eqb count m c)
 as-before (suc n) v count m [] e = let c : count ≡ m → ⊥ = λ c. omega arith in rw (ne_eqb count m c)
-as-before (suc n) v count m (b ∷ s) e = go (is_digit b) (as-before n (10 * v + (b - 48)) (count + 1) m s (omega arith))
+as-before (suc n) v count m (b ∷ s) e = go (is_digit b) refl (as-before n (10 * v + (b - 48)) (count + 1) m s (omega arith))
   where
-    go : (x : Bool) → bind (digits_after n (10 * v + (b - 48)) (count + 1) s) (all_of m) ≡ digits_before n (10 * v + (b - 48)) s
-        → bind (cond x (digits_after n (10 * v + (b - 48)) (count + 1) s) (ok (number v count) (b ∷ s))) (all_of m) ≡ cond x (digits_before n (10 * v + (b - 48)) s) (fault Bad)
-    go true more = more
-    go false more = let c : count ≡ m → ⊥ = λ c. omega arith in rw (ne_eqb count m c)
+    go : {f : Fault} (x : Bool) → no_digit (b ∷ s) ≡ f → bind (digits_after n (10 * v + (b - 48)) (count + 1) s) (all_of m) ≡ digits_before n (10 * v + (b - 48)) s
+        → bind (cond x (digits_after n (10 * v + (b - 48)) (count + 1) s) (ok (number v count) (b ∷ s))) (all_of m) ≡ cond x (digits_before n (10 * v + (b - 48)) s) (fault f)
+    go true k more = more
+    go false k more = let c : count ≡ m → ⊥ = λ c. omega arith in rw (ne_eqb count m c, k)
 
 pub numbers-as-before : (n : ℕ) (s : List ℕ) → all_digits n s ≡ digits_before n 0 s
 unfolding after
