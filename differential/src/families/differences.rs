@@ -41,19 +41,15 @@ fn texts(run: &mut Run) {
     }
 }
 
-/// The smallest text with short decimals, by length and then by bytes; half a second; a hundredth
-/// with its zero in front. More than three decimals are read by V8 alone.
+/// The smallest texts with one decimal and with two, by length and then by bytes; hour 24. More than
+/// three decimals are read by V8 alone.
 fn short_decimals(run: &mut Run) {
     let zone = &list_bytes(&UTC);
     for (text, gives) in [
         ("0000T00:00:00.0", Gives::Time(-62_167_219_200_000)),
         ("0000T00:00:00.00", Gives::Time(-62_167_219_200_000)),
-        ("0000T00:00:00.0Z", Gives::Time(-62_167_219_200_000)),
-        ("0000T00:00:00.0+00", Gives::Time(-62_167_219_200_000)),
         ("0000T24:00:00.0", Gives::Time(-62_167_132_800_000)),
         ("0000T24:00:00.1", Gives::Number(7)),
-        ("1970T00:00:00.5", Gives::Time(500)),
-        ("1970T00:00:00.05", Gives::Time(50)),
         ("0000T00:00:00.0000", Gives::Number(6)),
     ] {
         row(run, &Case::Read { zone, text: text.as_bytes() }, &gives);
