@@ -1,5 +1,5 @@
--- No clause of the demands is empty: accepted lists exist, and so do, for every call, field records in the exact domain, and a record with a
--- gap beside the one where it is filled. Assumes nothing.
+-- No clause of the demands is empty: accepted lists exist, and so do, for every call, field records in the exact domain, a record with a
+-- gap beside the one where it is filled, and a text with one decimal. Assumes nothing.
 use mathlib.Core.Path.{◌≡◌, refl, sym, subst}
 use mathlib.Core.Bool.{Bool, true, false, cond, true≢false}
 use mathlib.Core.List.{List, []}
@@ -12,8 +12,14 @@ use lib.Ieee.{of_fields, of_bits, of_int, to_unsigned, lt, rem, div}
 use lib.Ieee.Scale.{finite}
 use Rattle.integers.specs.Whole.{floor_div}
 use Rattle.integers.proofs.Table.{all-at}
-use Rattle.ecma262.specs.Date.{days_in_year, day_from_year, year_from_time, month_of, date_of, days_before}
+use Rattle.ecma262.specs.Date.{days_in_year, day_from_year, year_from_time, month_of, date_of, days_before, make_day}
 use Rattle.ecma262.specs.Domain.{ExactDay, ExactTime}
+use Rattle.ecma262.specs.Format.Year.{four}
+use Rattle.ecma262.specs.Format.Date.{toYear}
+use Rattle.ecma262.specs.Format.Time.{toDecimals}
+use Rattle.ecma262.specs.Format.Zone.{zulu}
+use Rattle.ecma262.specs.Format.Form.{timed}
+use Rattle.ecma262.specs.Texts.{ascii}
 use Rattle.float.specs.Whole.{trunc_z, floor_z}
 use Rattle.float.specs.Rounding.{floor_f, rem_euclid_f}
 use Rattle.calendar.specs.Calendar.{num, hour_from_time_f, min_from_time_f, sec_from_time_f, ms_from_time_f, wrap32}
@@ -25,7 +31,8 @@ use Rattle.field_record.specs.FieldRecord.{stands, has_length, has_other_bit, pl
 use Rattle.new_date.specs.Calls.{Call, build, set, bits_of, absent, WrittenIn}
 use Rattle.new_date.specs.declared.Part.TheVariants.{Milliseconds, Seconds, Minutes, Hours, Date, Month, FullYear}
 use Rattle.new_date.specs.Standard.{absent_z, argument_z, shift_in_z, Finite, Exact, Passes}
-use Rattle.demands.specs.Terms.{zero_list, first_is_one, minute_alone, minute_and_rest}
+use Rattle.reader.specs.Denotes.{instant_of}
+use Rattle.demands.specs.Terms.{Short, DenotesBy, zero_list, first_is_one, minute_alone, minute_and_rest}
 
 pub accepted-lists-exist : Accepted zero_list
 unfolding records record_at little_endian twos_complement is_zone_list accepts
@@ -114,3 +121,18 @@ gap-filled-exists = (in-utc minute_alone refl refl, in-utc minute_and_rest refl 
 pub absent-year-of-nan : (fields : List ℕ) → stands fields 0 ≡ false → argument_z (set FullYear) (pos 0) fields 0 ≡ pos 1970
 unfolding absent_z days_in_year day_from_year year_from_time
 absent-year-of-nan fields s = rw s refl
+
+-- ---- a text with one decimal
+pub half-a-second : (zone : List ℕ) → DenotesBy Short zone (ascii "1970T00:00:00.5Z") (pos 500)
+unfolding day_from_year days_before make_day instant_of
+half-a-second zone = record {
+  denotes = record {
+    form = timed (four 1970) toYear (toDecimals 0 0 0 1 5) zulu;
+    writes = record {
+      bounds = (omega arith, tt, record { hour-to = omega arith; minute-to = omega arith; second-to = omega arith; decimals-ok = (omega arith, omega arith, omega arith); midnight = λ e. absurd (omega (arith, e)) }, tt);
+      printed = refl;
+    };
+    instant = refl;
+  };
+  kind = omega arith;
+}

@@ -86,8 +86,7 @@ module _ (zone : List ℕ) where
   three-bounds (timed y d (toDecimals h m s places decimals) z) b =
       let B = b.2 in
       let e = three-decimals (thousandths places decimals) in
-      let l : thousandths places decimals ≤ 999 = ms_below (toDecimals h m s places decimals) B.decimals-ok in
-      (
+      let l : thousandths places decimals ≤ 999 = ms_below (toDecimals h m s places decimals) B.decimals-ok in (
         b.0,
         b.1,
         record {

@@ -35,7 +35,7 @@ use lib.ListN.{length, replicate}
 use lib.Ieee.{Float, nan, binary64, of_bits, of_int}
 use Rattle.ecma262.specs.Date.{InRange, IsYearFromTime, year_from_time, IsMakeDay, make_day, time_clip}
 use Rattle.ecma262.specs.Domain.{Shown}
-use Rattle.ecma262.specs.Texts.{iso_text, utc_text, local_text, invalid_date}
+use Rattle.ecma262.specs.Texts.{ascii, iso_text, utc_text, local_text, invalid_date}
 use Rattle.ecma262.specs.Digits.{digits}
 use Rattle.ecma262.specs.Format.{Form, Bounds, DecimalsBounds, prints, prints_time, time_fields, thousandths}
 use Rattle.ecma262.specs.Format.Time.{toDecimals}
@@ -253,6 +253,10 @@ new-texts = decimals.new-texts
 
 pub no-text-is-both : (zone text : List ℕ) (t u : ℤ) → DenotesBy ThreeOrNone zone text t → DenotesBy Short zone text u → ⊥
 no-text-is-both = decimals.no-text-is-both
+
+-- "`.5` for half a second": there are such texts
+pub half-a-second : (zone : List ℕ) → DenotesBy Short zone (ascii "1970T00:00:00.5Z") (pos 500)
+half-a-second = cases.half-a-second
 
 -- `Denotes` gives `.5` and `.500` the same instant: the zeros written in behind one or two decimals
 pub with-three-denotes : (zone : List ℕ) (f : Form) → Bounds f → (t : ℤ) → Denotes zone (prints f) t ↔ Denotes zone (prints (with_three f)) t
