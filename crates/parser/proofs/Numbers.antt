@@ -100,7 +100,7 @@ pub record Number (count v : ℕ) (s t : List ℕ) : Type 0 where
   pub small : v < 10 ^ count
   pub word : s ≡ digits count v ++ t
 
--- "at most n"
+-- at most n digits
 pub upto_read : (n : ℕ) {s : List ℕ} {v count : ℕ} {t : List ℕ} → digits_upto n s ≡ ok (number v count) t → (count ≤ n) × Number count v s t
 upto_read n {s} {v} {count} {t} e =
     let r = digits-read n 0 0 s v count t e in
@@ -114,7 +114,7 @@ upto-written n count v t l h q =
     let c : 0 + count ≡ count = omega arith in
     digits-written n count 0 0 v t l h q ∙ ap₂ (λ x y. ok (number x y) t) e c
 
--- all n
+-- all n digits
 pub number_read : (n : ℕ) {s : List ℕ} {v : ℕ} {t : List ℕ} → all_digits n s ≡ ok v t → Number n v s t
 unfolding after all_of
 number_read n {s} {v} {t} e = go (digits_upto n s) refl e

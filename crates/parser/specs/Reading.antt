@@ -48,7 +48,7 @@ is_digit b = cond (leb 48 b) (leb b 57) false
 pub data Number : Type 0 where
   number : (value count : ℕ) → Number
 
--- the decimal digits that stand there, "at most n", after `count` digits that write `value`
+-- the decimal digits that stand there, at most n of them, after `count` digits that write `value`
 unfoldable pub digits_after : ℕ → ℕ → ℕ → Reader Number
 digits_after zero value count s = ok (number value count) s
 digits_after (suc n) value count [] = ok (number value count) []
