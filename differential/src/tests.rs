@@ -144,6 +144,10 @@ fn decimals_are_one_to_three() {
         }
     }
     assert_eq!(read("1970-01-01T00:00:00.5+01:00"), (0, (-3_599_500.0f64).to_bits()));
+}
+
+#[test]
+fn what_decimals_are_refused_for() {
     for (end, due) in [
         (".", 5),
         (".Z", 6),

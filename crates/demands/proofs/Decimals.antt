@@ -2,23 +2,27 @@
 -- change nothing; so two texts that differ in these zeros rewrite to equal bytes. Assumes nothing.
 use mathlib.Core.Path.{◌≡◌, refl, sym, ap, ◌∙◌, subst}
 use mathlib.Core.Bool.{Bool, true, false, cond}
-use mathlib.Core.List.{List, [], ◌∷◌}
+use mathlib.Core.List.{List, [], ◌∷◌, ◌++◌}
 use mathlib.Core.Logic.{◌↔◌, ◌⊎◌, inl, inr}
 use Prim.Native.Nat.{ℕ, zero, suc, ◌+◌, ◌-◌, ◌*◌, ◌≤◌}
 use native.Mathlib.Omega.{arith}
 use native.Mathlib.Decide.{dec_le}
-use lib.Dec.{eqb}
+use lib.Dec.{leb, eqb}
 use lib.IntN.{ℤ}
-use borrow.Author.Tests.{eqb-true, eq-eqb, ne_eqb}
-use Rattle.ecma262.specs.Format.{Time, Form, Bounds, Writes, prints, thousandths, form_fields}
+use borrow.Author.Tests.{eqb-true, eq-eqb, ne_eqb, leb-true}
+use Rattle.ecma262.specs.Format.{Year, Date, Time, Form, Bounds, TimeBounds, Writes, prints, thousandths, time_fields, form_fields}
+use Rattle.ecma262.specs.Digits.{digits}
 use Rattle.ecma262.specs.Format.Time.{toSecond, toDecimals}
 use Rattle.ecma262.specs.Format.Form.{date, timed}
 use Rattle.ecma262.proofs.Decimals.{three-decimals, ms_below}
 use Rattle.zone.specs.Zone.{records}
 use Rattle.parser.specs.declared.Fault.{Fault}
-use Rattle.parser.specs.Reading.{Out, ok, fault, Number, number, bind, after, is_digit, digits_after, digits_upto, no_digit, all_of, all_digits, decimals_of}
+use Rattle.parser.specs.declared.Fault.TheVariants.{Bad}
+use Rattle.parser.specs.Reading.{Out, ok, fault, Number, number, bind, after, give, choose, is_digit, digits_after, digits_upto, no_digit, all_of, all_digits, decimals_of, read_zone, ending}
+use Rattle.parser.specs.Inner.{NotDigit}
+use Rattle.parser.proofs.Stages.{decimals-written}
 use Rattle.parser.proofs.Accepts.{form-unique}
-use Rattle.reader.specs.Denotes.{instant_of, Denotes}
+use Rattle.reader.specs.Denotes.{instant_of, Denotes, AcceptedText}
 use Rattle.demands.specs.Terms.{ThreeOrNone, Short, DenotesBy, with_three, digits_before}
 
 -- ---- old texts and new ones
@@ -31,14 +35,14 @@ by-decimals (timed y d (toSecond h m s) z) b = inl tt
 by-decimals (timed y d (toDecimals h m s places decimals) z) b = go (dec_le places 2)
   where
     go : Dec (places ≤ 2) → ThreeOrNone (timed y d (toDecimals h m s places decimals) z) ⊎ Short (timed y d (toDecimals h m s places decimals) z)
-    go (yes l) = inr (omega (arith, l))
+    go (yes l) = inr (b.2.decimals-ok.0, omega (arith, l))
     go (no n) = inl (omega (arith, n, b.2.decimals-ok.1))
 
 not-both : (f : Form) → ThreeOrNone f → Short f → ⊥
 not-both (date y d) e l = l
 not-both (timed y d (Time.toMinute h m) z) e l = l
 not-both (timed y d (toSecond h m s) z) e l = l
-not-both (timed y d (toDecimals h m s places decimals) z) e l = omega arith
+not-both (timed y d (toDecimals h m s places decimals) z) e l = omega (arith, l.1)
 
 module _ (zone text : List ℕ) where
   pub new-texts : (t : ℤ) → Denotes zone text t ↔ (DenotesBy ThreeOrNone zone text t ⊎ DenotesBy Short zone text t)
@@ -56,6 +60,22 @@ module _ (zone text : List ℕ) where
   no-text-is-both t u a b =
       let e : b.denotes.form ≡ a.denotes.form = form-unique text b.denotes.form a.denotes.form b.denotes.writes a.denotes.writes in
       not-both a.denotes.form a.kind (subst Short e b.kind)
+
+-- ---- three decimals as before
+pub three-fields : (h m s ms : ℕ) → time_fields (toDecimals h m s 3 ms) ≡ record { hour = h; minute = m; second = s; ms = ms }
+three-fields h m s ms = λ i. record { hour = h; minute = m; second = s; ms = three-decimals ms i }
+
+pub three-bounds-as-before : (h m s ms : ℕ) → TimeBounds (toDecimals h m s 3 ms) ↔ ((h ≤ 24) × (m ≤ 59) × (s ≤ 59) × (ms ≤ 999) × (h ≡ 24 → (m ≡ 0) × (s ≡ 0) × (ms ≡ 0)))
+three-bounds-as-before h m s ms = (
+  λ b. (b.hour-to, b.minute-to, b.second-to, omega (arith, b.decimals-ok.2), λ q. let k = b.midnight q in (k.0, k.1, sym (three-decimals ms) ∙ k.2)),
+  λ b. record {
+    hour-to = b.0;
+    minute-to = b.1;
+    second-to = b.2;
+    decimals-ok = (omega arith, omega arith, omega (arith, b.3));
+    midnight = λ q. let k = b.4 q in (k.0, k.1, three-decimals ms ∙ k.2);
+  },
+)
 
 -- ---- zeros written in
 module _ (zone : List ℕ) where
@@ -105,6 +125,13 @@ module _ (zone : List ℕ) where
       let q = denotes-form (with_three f) (three-bounds f b) t in
       (λ d. q.1 (same-instant f ∙ p.0 d), λ d. p.1 (sym (same-instant f) ∙ q.0 d))
 
+  -- and so the two are accepted together
+  pub accepted-together : (f : Form) → Bounds f → AcceptedText zone (prints f) ↔ AcceptedText zone (prints (with_three f))
+  accepted-together f b = (
+    λ a. record { list = a.list; t = a.t; denotes = (with-three-denotes f b a.t).0 a.denotes; inside = a.inside },
+    λ a. record { list = a.list; t = a.t; denotes = (with-three-denotes f b a.t).1 a.denotes; inside = a.inside },
+  )
+
 -- ---- the numbers of the other fields
 
 -- all n digits, or the first that is missing at fault: what is read after digits that write v
@@ -141,3 +168,31 @@ three-digits-as-before h m sc s v t e = go (digits_upto 3 s) refl (numbers-as-be
     go : (o : Out Number) → digits_upto 3 s ≡ o → bind o (all_of 3) ≡ ok v t → bind (digits_upto 3 s) (decimals_of h m sc) ≡ ok (toDecimals h m sc 3 v) t
     go (ok (number w count) u) h e = pick w count u h (eqb count 3) refl e
     go (fault f) h e = cc
+
+-- no digit after the point is at fault, as every missing digit was before
+pub no-digit-after-the-point : (h m sc : ℕ) (s : List ℕ) → NotDigit s → after (digits_upto 3) (decimals_of h m sc) s ≡ fault (no_digit s)
+unfolding after digits_after decimals_of
+no-digit-after-the-point h m sc [] n = refl
+no-digit-after-the-point h m sc (b ∷ s) n = rw n
+
+-- a digit is none of the bytes that a zone begins with
+digit-from : (b : ℕ) → is_digit b ≡ true → 48 ≤ b
+digit-from b e = go (leb 48 b) refl e
+  where
+    go : (x : Bool) → leb 48 b ≡ x → cond x (leb b 57) false ≡ true → 48 ≤ b
+    go true h e = leb-true 48 b h
+    go false h e = cc
+
+digit-upto : (b : ℕ) → is_digit b ≡ true → b ≤ 57
+digit-upto b e = go (leb 48 b) e
+  where
+    go : (x : Bool) → cond x (leb b 57) false ≡ true → b ≤ 57
+    go true e = leb-true b 57 e
+    go false e = cc
+
+-- a fourth digit is no byte that may follow three
+pub fourth-digit : (y : Year) (d : Date) (h m sc ms b : ℕ) (s : List ℕ) → ms ≤ 999 → is_digit b ≡ true
+    → after (after (digits_upto 3) (decimals_of h m sc)) (λ t. after read_zone (ending y d t)) (digits 3 ms ++ b ∷ s) ≡ fault Bad
+unfolding after read_zone choose give ending
+fourth-digit y d h m sc ms b s l e = rw (decimals-written h m sc 3 ms (b ∷ s) (omega arith, omega arith, omega arith) (λ k. absurd (omega arith)))
+    (simp (ne_eqb b 90 (λ q. omega (arith, digit-upto b e, q)), ne_eqb b 43 (λ q. omega (arith, digit-from b e, q)), ne_eqb b 45 (λ q. omega (arith, digit-from b e, q))))

@@ -15,7 +15,8 @@
 --   shift_in_z, shift_out_z    local: a time shifted by the list in, and out; in UTC the time itself               new_date/specs/Standard
 --   time_value, time_reply     a clipped time as f64, NaN for none; its bits as an answer                 make/specs/Make, fields/specs/Outcome
 --   Accepted zone              an accepted zone list                                                      zone/specs/Zone
---   Writes form text           the text is "the Date Time String Format as 01 sets it", by its form       ecma262/specs/Format
+--   Writes form text           the text is "the Date Time String Format as 01 sets it", by its form, with
+--                              02's decimals                                                              ecma262/specs/Format
 --   thousandths places n       decimals, so many digits that write n, in milliseconds                     ecma262/specs/Format
 --   Denotes zone text t        t is "the instant that 01 says the text denotes"                           reader/specs/Denotes
 --   DenotesBy kind …           it is so by a form of a kind: ThreeOrNone decimals, or Short               demands/specs/Terms
@@ -37,7 +38,7 @@ use Rattle.ecma262.specs.Date.{InRange, IsYearFromTime, year_from_time, IsMakeDa
 use Rattle.ecma262.specs.Domain.{Shown}
 use Rattle.ecma262.specs.Texts.{ascii, iso_text, utc_text, local_text, invalid_date}
 use Rattle.ecma262.specs.Digits.{digits}
-use Rattle.ecma262.specs.Format.{Form, Bounds, DecimalsBounds, prints, prints_time, time_fields, thousandths}
+use Rattle.ecma262.specs.Format.{Year, Date, Form, Bounds, TimeBounds, prints, prints_time, time_fields, thousandths}
 use Rattle.ecma262.specs.Format.Time.{toDecimals}
 use Rattle.ecma262.proofs.Decimals.{tenths, hundredths, three-decimals, zeros-behind-to-three}
 use Rattle.ecma262.proofs.Year.{year-is, year-unique}
@@ -65,7 +66,9 @@ use Rattle.new_date.specs.Standard.{no_field, argument_z, new_date_z, shift_in_z
 use Rattle.new_date.proofs.NoField.{no-field-exact}
 use Rattle.fields.specs.Outcome.{start_of, time_reply, build_outcome, set_outcome}
 use Rattle.fields.proofs.Outcomes.{build-exact, build-first-nan, build-written-in, no-field-passes, set-exact, set-first-nan, set-no-field, set-no-year-of-nan, set-of-nan, set-written-in, set-year-of-nan}
-use Rattle.parser.specs.Reading.{ok, after, digits_upto, all_digits, decimals_of}
+use Rattle.parser.specs.declared.Fault.TheVariants.{Bad}
+use Rattle.parser.specs.Reading.{ok, fault, after, is_digit, digits_upto, no_digit, all_digits, decimals_of, read_zone, ending}
+use Rattle.parser.specs.Inner.{NotDigit}
 use Rattle.reader.specs.Denotes.{Denotes, AcceptedText}
 use Rattle.reader.specs.Outcome.{answer_at, read_outcome}
 use Rattle.reader.proofs.Denotation.{denotes-unique, answered}
@@ -237,16 +240,17 @@ refuses-the-list-exactly = reading.one-exactly
 pub tenths-hundredths-thousandths : (d : ℕ) → (thousandths 1 d ≡ 100 * d) × (thousandths 2 d ≡ 10 * d) × (thousandths 3 d ≡ d)
 tenths-hundredths-thousandths d = (tenths d, hundredths d, three-decimals d)
 
--- the format before is the case of three digits: they print, are a field and are bounded as before the request
+-- the format before is the case of three digits: they print, are fields and are bounded as before the request
 pub three-decimals-as-before : (h m s ms : ℕ)
     → (prints_time (toDecimals h m s 3 ms) ≡ digits 2 h ++ 58 ∷ digits 2 m ++ 58 ∷ digits 2 s ++ 46 ∷ digits 3 ms)
-    × ((time_fields (toDecimals h m s 3 ms)).ms ≡ ms) × (DecimalsBounds (toDecimals h m s 3 ms) ↔ (ms ≤ 999))
-three-decimals-as-before h m s ms = (refl, three-decimals ms, (λ b. omega (arith, b.2), λ l. (omega arith, omega arith, omega arith)))
+    × (time_fields (toDecimals h m s 3 ms) ≡ record { hour = h; minute = m; second = s; ms = ms })
+    × (TimeBounds (toDecimals h m s 3 ms) ↔ ((h ≤ 24) × (m ≤ 59) × (s ≤ 59) × (ms ≤ 999) × (h ≡ 24 → (m ≡ 0) × (s ≡ 0) × (ms ≡ 0))))
+three-decimals-as-before h m s ms = (refl, decimals.three-fields h m s ms, decimals.three-bounds-as-before h m s ms)
 
--- acceptance grows only: what a text denoted before it denotes still, and is answered; new are the texts with one decimal or two, and
--- no text is both
-pub old-texts-answered : (zone text : List ℕ) (t : ℤ) → Accepted zone → DenotesBy ThreeOrNone zone text t → Denotes zone text t × (read_outcome zone text ≡ answer_at t)
-old-texts-answered zone text t a o = (o.denotes, answered zone text a t o.denotes)
+-- acceptance grows only: each text of the format before, whose form has three decimals or none, is answered by the instant that it denotes; new
+-- are the texts with one decimal or two, and no text is both
+pub old-texts-answered : (zone text : List ℕ) (t : ℤ) → Accepted zone → DenotesBy ThreeOrNone zone text t → read_outcome zone text ≡ answer_at t
+old-texts-answered zone text t a o = answered zone text a t o.denotes
 
 pub new-texts : (zone text : List ℕ) (t : ℤ) → Denotes zone text t ↔ (DenotesBy ThreeOrNone zone text t ⊎ DenotesBy Short zone text t)
 new-texts = decimals.new-texts
@@ -273,6 +277,15 @@ numbers-as-before = decimals.numbers-as-before
 pub three-digits-as-before : (h m sc : ℕ) (s : List ℕ) (v : ℕ) (t : List ℕ) → digits_before 3 0 s ≡ ok v t
     → after (digits_upto 3) (decimals_of h m sc) s ≡ ok (toDecimals h m sc 3 v) t
 three-digits-as-before = decimals.three-digits-as-before
+
+-- "and no digit is 5 or 6": 5 where the text ends behind the point, 6 before any other byte
+pub no-digit-is-5-or-6 : (h m sc : ℕ) (s : List ℕ) → NotDigit s → after (digits_upto 3) (decimals_of h m sc) s ≡ fault (no_digit s)
+no-digit-is-5-or-6 = decimals.no-digit-after-the-point
+
+-- "A fourth digit is still 6": what follows three digits, a zone and the end, is not there
+pub fourth-digit-is-6 : (y : Year) (d : Date) (h m sc ms b : ℕ) (s : List ℕ) → ms ≤ 999 → is_digit b ≡ true
+    → after (after (digits_upto 3) (decimals_of h m sc)) (λ t. after read_zone (ending y d t)) (digits 3 ms ++ b ∷ s) ≡ fault Bad
+fourth-digit-is-6 = decimals.fourth-digit
 
 -- ---- "the writers give its texts, the local suffix excepted": of the whole number t, by any of its bits. The answer has the bits of t, "the
 -- time it was given (-0 as 0)".

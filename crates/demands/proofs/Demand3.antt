@@ -7,6 +7,7 @@
 --   Accepted zone        an "accepted zone list"                                                  crates/zone/specs/Zone.antt
 --   AcceptedText zone w  a text "accepted under it"                                               crates/reader/specs/Denotes.antt
 --   run_of o              "the bytes a call writes"                                                crates/rewrite/specs/Rewrite.antt
+--   with_three f         the form f with its decimals in thousandths: `.5` is `.500`               crates/demands/specs/Terms.antt
 -- "Demand 3 is about outputs at least as long as the text to be written." The proofs rest on crates/rewrite/proofs/Runs.antt and
 -- what it cites.
 -- Assumes nothing.
@@ -80,12 +81,15 @@ rewriting-again = runs.rewriting-again
 
 -- ---- 02, change request 8: "Rewriting always prints three digits", and one or two decimals rewrite as three do. A text of the format and
 -- the one with zeros written in are accepted together, and rewrite to equal bytes
-pub zeros-rewrite-alike : (zone : List ℕ) (f : Form) → Bounds f → (a : AcceptedText zone (prints f))
-    → (b : AcceptedText zone (prints (with_three f)))
-    × ((out out' : List ℕ) → Enough a out → Enough b out' → run_of (rewrite_outcome zone (prints f) out) ≡ run_of (rewrite_outcome zone (prints (with_three f)) out'))
-zeros-rewrite-alike zone f k a =
-    let b : AcceptedText zone (prints (with_three f)) = record { list = a.list; t = a.t; denotes = (decimals.with-three-denotes zone f k a.t).0 a.denotes; inside = a.inside } in
-    (b, λ out out' l l'. (equal-bytes-exactly-when-one-instant zone (prints f) (prints (with_three f)) a b out out' l l').1 (a.t, a.denotes, b.denotes))
+pub zeros-rewrite-alike : (zone : List ℕ) (f : Form) → Bounds f
+    → (AcceptedText zone (prints f) ↔ AcceptedText zone (prints (with_three f)))
+    × ((a : AcceptedText zone (prints f)) (b : AcceptedText zone (prints (with_three f))) (out out' : List ℕ) → Enough a out → Enough b out'
+    → run_of (rewrite_outcome zone (prints f) out) ≡ run_of (rewrite_outcome zone (prints (with_three f)) out'))
+zeros-rewrite-alike zone f k = (
+  decimals.accepted-together zone f k,
+  λ a b out out' l l'. (equal-bytes-exactly-when-one-instant zone (prints f) (prints (with_three f)) a b out out' l l').1
+      (a.t, a.denotes, (decimals.with-three-denotes zone f k a.t).0 a.denotes),
+)
 
 -- a text to the minute, and what stands behind it
 abbrev pub to_minute : Year → Date → ℕ → ℕ → List ℕ → List ℕ
@@ -93,8 +97,8 @@ to_minute y d h m rest = prints_year y ++ (prints_date d ++ (ascii "T" ++ digits
 
 -- so `…:00.5Z` and `…:00.500Z`
 pub half-second-rewrites-alike : (zone : List ℕ) (y : Year) (d : Date) (h m : ℕ) → Bounds (timed y d (toDecimals h m 0 1 5) zulu)
-    → (a : AcceptedText zone (to_minute y d h m (ascii ":00.5Z")))
-    → (b : AcceptedText zone (to_minute y d h m (ascii ":00.500Z")))
-    × ((out out' : List ℕ) → Enough a out → Enough b out'
+    → (AcceptedText zone (to_minute y d h m (ascii ":00.5Z")) ↔ AcceptedText zone (to_minute y d h m (ascii ":00.500Z")))
+    × ((a : AcceptedText zone (to_minute y d h m (ascii ":00.5Z"))) (b : AcceptedText zone (to_minute y d h m (ascii ":00.500Z"))) (out out' : List ℕ)
+    → Enough a out → Enough b out'
     → run_of (rewrite_outcome zone (to_minute y d h m (ascii ":00.5Z")) out) ≡ run_of (rewrite_outcome zone (to_minute y d h m (ascii ":00.500Z")) out'))
-half-second-rewrites-alike zone y d h m k a = zeros-rewrite-alike zone (timed y d (toDecimals h m 0 1 5) zulu) k a
+half-second-rewrites-alike zone y d h m k = zeros-rewrite-alike zone (timed y d (toDecimals h m 0 1 5) zulu) k

@@ -102,7 +102,7 @@ abbrev pub Short : Form → Type 0
 Short (date y d) = ⊥
 Short (timed y d (Time.toMinute h m) z) = ⊥
 Short (timed y d (toSecond h m s) z) = ⊥
-Short (timed y d (toDecimals h m s places decimals) z) = places ≤ 2
+Short (timed y d (toDecimals h m s places decimals) z) = (1 ≤ places) × (places ≤ 2)
 
 -- the text denotes the instant t by a form of a kind
 pub record DenotesBy (Kind : Form → Type 0) (zone text : List ℕ) (t : ℤ) : Type 0 where

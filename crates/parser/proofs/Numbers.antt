@@ -9,7 +9,8 @@ use lib.Dec.{leb, eqb}
 use borrow.Author.Tests.{le-leb, leb-true, eqb-true, eq-eqb}
 use Rattle.ecma262.specs.Digits.{digits}
 use Rattle.ecma262.proofs.Digits.{digits-cons, digits-split, first-digit, ten-pos}
-use Rattle.parser.specs.Reading.{Out, ok, fault, Number as Taken, number, bind, is_digit, digits_after, digits_upto, no_digit, all_of, all_digits, within, field, after}
+use Rattle.parser.specs.Reading.{Out, ok, fault, Number, number, bind, digits_after, digits_upto, no_digit, all_of, all_digits, within, field, after}
+use Rattle.parser.specs.Inner.{NotDigit}
 
 -- what n digits that write w make of the digits v before them
 grown : (n v d w : ℕ) → (10 * v + d) * 10 ^ n + w ≡ v * 10 ^ suc n + (d * 10 ^ n + w)
@@ -64,11 +65,6 @@ digits-read (suc n) v count (b ∷ s) u all t e = go (leb 48 b) (leb b 57) refl 
 
 -- ---- what is written is read, where no digit follows or all are taken
 
--- the text t does not begin with a digit
-abbrev pub NotDigit : List ℕ → Type 0
-NotDigit [] = Unit
-NotDigit (b ∷ t) = is_digit b ≡ false
-
 pub none-written : (n v count : ℕ) (t : List ℕ) → (0 < n → NotDigit t) → digits_after n v count t ≡ ok (number v count) t
 unfolding digits_after
 none-written zero v count t h = refl
@@ -96,12 +92,12 @@ digits-written (suc n) (suc k) v count w t l h q =
 
 -- ---- from the start of a number
 
-pub record Number (count v : ℕ) (s t : List ℕ) : Type 0 where
+pub record IsNumber (count v : ℕ) (s t : List ℕ) : Type 0 where
   pub small : v < 10 ^ count
   pub word : s ≡ digits count v ++ t
 
 -- at most n digits
-pub upto_read : (n : ℕ) {s : List ℕ} {v count : ℕ} {t : List ℕ} → digits_upto n s ≡ ok (number v count) t → (count ≤ n) × Number count v s t
+pub upto_read : (n : ℕ) {s : List ℕ} {v count : ℕ} {t : List ℕ} → digits_upto n s ≡ ok (number v count) t → (count ≤ n) × IsNumber count v s t
 upto_read n {s} {v} {count} {t} e =
     let r = digits-read n 0 0 s v count t e in
     let c : r.taken ≡ count = omega (arith, r.counted) in
@@ -115,11 +111,11 @@ upto-written n count v t l h q =
     digits-written n count 0 0 v t l h q ∙ ap₂ (λ x y. ok (number x y) t) e c
 
 -- all n digits
-pub number_read : (n : ℕ) {s : List ℕ} {v : ℕ} {t : List ℕ} → all_digits n s ≡ ok v t → Number n v s t
+pub number_read : (n : ℕ) {s : List ℕ} {v : ℕ} {t : List ℕ} → all_digits n s ≡ ok v t → IsNumber n v s t
 unfolding after all_of
 number_read n {s} {v} {t} e = go (digits_upto n s) refl e
   where
-    pick : (w count : ℕ) (u : List ℕ) → digits_upto n s ≡ ok (number w count) u → (x : Bool) → eqb count n ≡ x → cond x (ok w u) (fault (no_digit u)) ≡ ok v t → Number n v s t
+    pick : (w count : ℕ) (u : List ℕ) → digits_upto n s ≡ ok (number w count) u → (x : Bool) → eqb count n ≡ x → cond x (ok w u) (fault (no_digit u)) ≡ ok v t → IsNumber n v s t
     pick w count u h true g e =
         let c : count ≡ n = eqb-true count n g in
         let q : w ≡ v = cc in
@@ -127,7 +123,7 @@ number_read n {s} {v} {t} e = go (digits_upto n s) refl e
         rw (c, q, r) at (upto_read n h).1
     pick w count u h false g e = cc
 
-    go : (o : Out Taken) → digits_upto n s ≡ o → bind o (all_of n) ≡ ok v t → Number n v s t
+    go : (o : Out Number) → digits_upto n s ≡ o → bind o (all_of n) ≡ ok v t → IsNumber n v s t
     go (ok (number w count) u) h e = pick w count u h (eqb count n) refl e
     go (fault f) h e = cc
 

@@ -14,8 +14,9 @@ use Rattle.ecma262.specs.Format.Date.{toYear, toMonth, toDay}
 use Rattle.ecma262.specs.Format.Time.{toSecond, toDecimals}
 use Rattle.ecma262.specs.Format.Zone.{absent, zulu, toHour}
 use Rattle.parser.specs.declared.Fault.TheVariants.{Bad, Range}
-use Rattle.parser.specs.Reading.{Out, ok, fault, Reader, Number as Taken, number, bind, after, give, choose, byte, digits_upto, no_digit, all_digits, within, field, signed_year, read_year, read_day, read_date, decimals_of, read_decimals, read_second, read_time, read_offset_minute, read_offset, read_zone}
-use Rattle.parser.proofs.Numbers.{Number, NotDigit, upto_read, upto-written, number_read, number-written, Field, field-written}
+use Rattle.parser.specs.Reading.{Out, ok, fault, Reader, Number, number, bind, after, give, choose, byte, digits_upto, no_digit, all_digits, within, field, signed_year, read_year, read_day, read_date, decimals_of, read_decimals, read_second, read_time, read_offset_minute, read_offset, read_zone}
+use Rattle.parser.specs.Inner.{NotDigit}
+use Rattle.parser.proofs.Numbers.{IsNumber, upto_read, upto-written, number_read, number-written, Field, field-written}
 
 -- ---- what a step read. Each takes what follows of it to any conclusion C
 
@@ -69,7 +70,7 @@ module _ {A C : Type 0} {s u : List ℕ} {a : A} where
       go [] h e = cc
       go (c ∷ t) h e = pick c t h (eqb c b) refl e
 
-  on-number : (n : ℕ) (k : ℕ → Reader A) → after (all_digits n) k s ≡ ok a u → ((v : ℕ) (t : List ℕ) → Number n v s t → k v t ≡ ok a u → C) → C
+  on-number : (n : ℕ) (k : ℕ → Reader A) → after (all_digits n) k s ≡ ok a u → ((v : ℕ) (t : List ℕ) → IsNumber n v s t → k v t ≡ ok a u → C) → C
   on-number n k e then = on-after (all_digits n) k e (λ v t h g. then v t (number_read n h) g)
 
 field-read : (low high : ℕ) {s t : List ℕ} {v : ℕ} → field low high s ≡ ok v t → Field low high v s t
@@ -138,13 +139,13 @@ unfolding decimals_of
 on-decimals {C} n h m sc {s} {t} {x} e l then = on-after (digits_upto n) (decimals_of h m sc) e read
   where
     pick : (v count : ℕ) (u : List ℕ) {least : ℕ} (z : Bool) → cond z (ok (toDecimals h m sc count v) u) (fault (no_digit u)) ≡ ok x t → leb least count ≡ z → 1 ≤ least
-        → (count ≤ n) × Number count v s u → C
+        → (count ≤ n) × IsNumber count v s u → C
     pick v count u {least} true e g k r =
         let q : u ≡ t = cc in
         then count v (omega (arith, leb-true least count g), omega (arith, r.0), r.1.small) (cc) (r.1.word ∙ rw q)
     pick v count u false e g k r = cc
 
-    read : (r : Taken) (u : List ℕ) → digits_upto n s ≡ ok r u → decimals_of h m sc r u ≡ ok x t → C
+    read : (r : Number) (u : List ℕ) → digits_upto n s ≡ ok r u → decimals_of h m sc r u ≡ ok x t → C
     read (number v count) u h e = pick v count u _ e refl (omega arith) (upto_read n h)
 
 pub time-read : (s : List ℕ) (x : Time) (t : List ℕ) → read_time s ≡ ok x t → Part prints_time Clock s x t
@@ -238,11 +239,11 @@ minute-written h m t a b =
     field-then 0 24 _ h (58 ∷ digits 2 m ++ t) (omega arith) a (omega arith) ∙ byte-then 58 _ (digits 2 m ++ t)
     ∙ field-then 0 59 (read_second h) m t (omega arith) b (omega arith)
 
--- one to three digits, behind which no digit stands
-decimals-written : (h m s places d : ℕ) (t : List ℕ) → DecimalsBounds (toDecimals h m s places d) → NotDigit t
+-- one to three digits, behind which no digit stands where they are fewer than three
+pub decimals-written : (h m s places d : ℕ) (t : List ℕ) → DecimalsBounds (toDecimals h m s places d) → (places < 3 → NotDigit t)
     → after (digits_upto 3) (decimals_of h m s) (digits places d ++ t) ≡ ok (toDecimals h m s places d) t
 unfolding after decimals_of
-decimals-written h m s places d t b n = rw (upto-written 3 places d t b.1 b.2 (λ l. n)) (simp (le-leb 1 places b.0))
+decimals-written h m s places d t b n = rw (upto-written 3 places d t b.1 b.2 n) (simp (le-leb 1 places b.0))
 
 pub time-written : (x : Time) (t : List ℕ) → Clock x → Not 58 t → Not 46 t → NotDigit t → read_time (prints_time x ++ t) ≡ ok x t
 unfolding read_second read_decimals give
@@ -253,7 +254,7 @@ time-written (toSecond h m s) t c n k g =
 time-written (toDecimals h m s places d) t c n k g =
     minute-written h m (58 ∷ digits 2 s ++ 46 ∷ digits places d ++ t) c.hour-to c.minute-to ∙ chosen 58 _ _ (digits 2 s ++ 46 ∷ digits places d ++ t)
     ∙ field-then 0 59 (read_decimals h m) s (46 ∷ digits places d ++ t) (omega arith) c.second-to (omega arith)
-    ∙ chosen 46 _ _ (digits places d ++ t) ∙ decimals-written h m s places d t c.decimals-ok g
+    ∙ chosen 46 _ _ (digits places d ++ t) ∙ decimals-written h m s places d t c.decimals-ok (λ l. g)
 
 -- a zone ends the text
 offset-written : (n : Bool) (h : ℕ) (t : List ℕ) → h ≤ 23 → read_zone (sign n ∷ digits 2 h ++ t) ≡ read_offset_minute n h t

@@ -1,6 +1,6 @@
 -- What only inner contracts use. What the code's answers say: the form of a text constructor by constructor, so that nothing is left free,
 -- and a stage's place in the text as the bytes from there on. Definitions only. Assumes nothing.
-use Rattle.std.specs.Prelude.{◌≡◌, List, [], ◌∷◌, ℕ, ◌+◌, ◌<◌, ◌≤◌, length, drop, Option, Some, None, Result, Ok, Err}
+use Rattle.std.specs.Prelude.{◌≡◌, false, List, [], ◌∷◌, ℕ, ◌+◌, ◌<◌, ◌≤◌, length, drop, Option, Some, None, Result, Ok, Err}
 use Rattle.ecma262.specs.Digits.{digits}
 use Rattle.ecma262.specs.Format as format
 use Rattle.fast_atoi.specs.Inner.{from_le_bytes}
@@ -15,7 +15,7 @@ use Rattle.parser.specs.declared.Zone.{Zone}
 use Rattle.parser.specs.declared.Zone.TheVariants as Z
 use Rattle.parser.specs.declared.Form.{Form}
 use Rattle.parser.specs.declared.Form.TheVariants as F
-use Rattle.parser.specs.Reading.{Out, ok, fault, Reader, Number, number, digits_after, digits_upto, all_digits, after, give, choose}
+use Rattle.parser.specs.Reading.{Out, ok, fault, Reader, Number, number, is_digit, digits_after, digits_upto, all_digits, after, give, choose}
 
 abbrev pub as_year : Year → format.Year
 as_year (Four y) = format.Year.four y
@@ -80,7 +80,12 @@ pub record IsDigit (text : List ℕ) (at b : ℕ) : Type 0 where
 pub record NoDigit (text : List ℕ) (at : ℕ) : Type 0 where
   pub same : (n value count : ℕ) → digits_after n value count (drop at text) ≡ ok (number value count) (drop at text)
 
--- from the place `at` of the text on, the reader p takes so many digits, inside the text, and they write that number
+-- a text that does not begin with a digit
+abbrev pub NotDigit : List ℕ → Type 0
+NotDigit [] = Unit
+NotDigit (b ∷ s) = is_digit b ≡ false
+
+-- from the place `at` of the text on, the reader p takes so many digits, inside the text, and comes to that value
 pub record Takes (p : Reader Number) (text : List ℕ) (at value count : ℕ) : Type 0 where
   pub same : p (drop at text) ≡ ok (number value count) (drop (at + count) text)
   pub inside : 0 < count → at + count ≤ length text

@@ -1,5 +1,5 @@
 -- Reading a date text from left to right: the form that it is of, or the first fault. What is read, and in which order, is 01's
--- "`DateParser::parse` reads in this order", for the decimals with change request 8 (02); which fault, its table "Where a call is turned
+-- "`DateParser::parse` reads in this order", for the decimals with change request 8 (02); which fault, 01's table "Where a call is turned
 -- back", rows 5 to 8 and the 7 after 8. Definitions only. Assumes nothing.
 use Rattle.std.specs.Prelude.{Bool, true, false, cond, List, [], ◌∷◌, ℕ, zero, suc, ◌+◌, ◌-◌, ◌*◌, leb, eqb}
 use Rattle.ecma262.specs.Format.{Year, Date, Time, Zone, Form, time_fields}

@@ -1,6 +1,6 @@
 // `DateParser` of date/utils.rs up to the form of a text: year, date, time and zone, read from left to right. A stage answers what it read
-// with the place after it, or the first fault. The form keeps how precise the text was and how its year and zone were written; what it
-// denotes is another crate's.
+// with the place after it, or the first fault. The form keeps how precise the text was, how many decimals it had, and how its year and zone
+// were written; what it denotes is another crate's.
 #![tactic(auto)]
 
 ghost use Rattle.std.specs.Prelude.{◌≡◌, ◌≤◌, ◌<◌, ◌^◌, false, drop, MatchOption};
@@ -348,7 +348,7 @@ fn parse_month(text: &[u8], at: usize) -> Read<Date>
 
 // After a `.`: one to three digits, "and no digit is 5 or 6".
 #[tactic(auto, unfolding(crate::specs::Reading::decimals_of, crate::specs::Reading::after))]
-fn decimals(text: &[u8], at: usize, hour: u32, minute: u32, second: u32) -> Read<Time>
+fn one_to_three_digits(text: &[u8], at: usize, hour: u32, minute: u32, second: u32) -> Read<Time>
     ensures { Reads (after (digits_upto 3) (decimals_of hour minute second)) text.now at (out as_time text.now result) }
 {
     let (decimals, places) = parse_n_ascii_digits(text, at, 3);
@@ -373,7 +373,7 @@ fn parse_decimals(text: &[u8], at: usize, hour: u32, minute: u32, second: u32) -
     ensures { Reads (read_decimals hour minute second) text.now at (out as_time text.now result) }
 {
     match peek(text, at) {
-        Some(b'.') => decimals(text, at + 1, hour, minute, second),
+        Some(b'.') => one_to_three_digits(text, at + 1, hour, minute, second),
         _ => Ok((
             Time::ToSecond {
                 hour,
@@ -454,7 +454,7 @@ fn after_zone(z: Zone) -> Fault
     }
 }
 
-// "Hour 24 is only valid as 24:00:00.000"
+// "Hour 24 needs all smaller fields 0", however many decimals are written.
 fn time_allowed(t: Time) -> bool
     requires { DecimalsBounds (as_time t) }
     ensures { result ≡ time_allowed (as_time t) }

@@ -1,4 +1,4 @@
--- `next_ascii_digit` answers the digit, or none where another byte stands. Assumes nothing.
+-- `next_ascii_digit` answers the digit, or none where no digit stands. Assumes nothing.
 use borrow.Author.Rules.{rules}
 use Rattle.parser.proofs.Runs.{digit_other}
 use Rattle.parser.proofs.next_ascii_digit.Goals as goal
