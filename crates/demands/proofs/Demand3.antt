@@ -85,11 +85,13 @@ pub zeros-rewrite-alike : (zone : List ℕ) (f : Form) → Bounds f
     → (AcceptedText zone (prints f) ↔ AcceptedText zone (prints (with_three f)))
     × ((a : AcceptedText zone (prints f)) (b : AcceptedText zone (prints (with_three f))) (out out' : List ℕ) → Enough a out → Enough b out'
     → run_of (rewrite_outcome zone (prints f) out) ≡ run_of (rewrite_outcome zone (prints (with_three f)) out'))
-zeros-rewrite-alike zone f k = (
-  decimals.accepted-together zone f k,
-  λ a b out out' l l'. (equal-bytes-exactly-when-one-instant zone (prints f) (prints (with_three f)) a b out out' l l').1
-      (a.t, a.denotes, (decimals.with-three-denotes zone f k a.t).0 a.denotes),
-)
+zeros-rewrite-alike zone f k = (decimals.accepted-together zone f k, same)
+  where
+    same : (a : AcceptedText zone (prints f)) (b : AcceptedText zone (prints (with_three f))) (out out' : List ℕ) → Enough a out → Enough b out'
+        → run_of (rewrite_outcome zone (prints f) out) ≡ run_of (rewrite_outcome zone (prints (with_three f)) out')
+    same a b out out' l l' =
+        (equal-bytes-exactly-when-one-instant zone (prints f) (prints (with_three f)) a b out out' l l').1
+        (a.t, a.denotes, (decimals.with-three-denotes zone f k a.t).0 a.denotes)
 
 -- a text to the minute, and what stands behind it
 abbrev pub to_minute : Year → Date → ℕ → ℕ → List ℕ → List ℕ
