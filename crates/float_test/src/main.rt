@@ -2,8 +2,20 @@
 //! pair; `is_whole_within` and `exact_i64` run inside the casts. README.md says where stdin and stdout come from: Rust's own answers.
 #![tactic(auto)]
 
-use std::io::{BufRead, BufReader, BufWriter, Write};
-use std::{fmt, io};
+use std::fmt;
+use std::io::{Read, Write};
+
+/// The bytes of a pattern: 16 digits.
+const PATTERN: usize = 16;
+
+/// The bytes of a line that is read: two patterns, and one byte after each.
+const PAIR: usize = 2 * (PATTERN + 1);
+
+/// The bytes of a line that is written: twelve patterns, and one byte after each.
+const LINE: usize = 12 * (PATTERN + 1);
+
+/// A proved loop ends: no more pairs than this are answered.
+const MOST_PAIRS: u32 = 65_536;
 
 /// What every function gives for x, or for x and y, as 64 bits each.
 #[derive(Drop)]
@@ -40,23 +52,43 @@ impl fmt::Display for Answers {
     }
 }
 
-/// The value whose pattern the digits write; where they are no digits, that of the pattern 0.
-fn value(digits: &str) -> f64 {
-    float::of_bits(u64::from_str_radix(digits, 16).unwrap_or(0))
-}
-
-/// The two values of a line.
-fn pair(line: &str) -> (f64, f64) {
-    let (x, y) = line.split_once(' ').unwrap_or((line, ""));
-    (value(x), value(y))
-}
-
-fn main(rt: HostRuntime) -> io::Result<()> {
-    let alloc = rt.alloc();
-    let mut writer = BufWriter::new(alloc, io::writer(&rt))?;
-    for line in BufReader::new(alloc, rt.reader())?.lines(alloc) {
-        let (x, y) = pair(&line?);
-        writeln!(writer, "{}", Answers::at(x, y))?;
+/// What a byte stands for in a pattern. Any byte stands for some number, so that a line is answered whatever stands in it.
+fn digit(byte: u8) -> u64 {
+    match byte {
+        b'a'..=255 => u64::from(byte - b'a') + 10,
+        b'0'..=b'`' => u64::from(byte - b'0'),
+        _ => 0,
     }
-    writer.flush()
+}
+
+/// The value whose pattern the digits write.
+fn value(digits: &[u8]) -> f64 {
+    float::of_bits(
+        digits
+            .iter()
+            .fold(0, |bits, byte| (bits << 4) | digit(*byte)),
+    )
+}
+
+/// Writes the answers, in one piece. A write that fails is passed over, and the next line's is tried all the same.
+fn respond(rt: &HostRuntime, answers: &Answers) {
+    let mut line = [0; LINE];
+    let mut room = line.as_mut_slice();
+    let _ = writeln!(room, "{answers}");
+    let _ = rt.stdout().write_all(&line);
+}
+
+/// Answers each line as soon as it is read. Where no whole line is left, or a read fails, the input has ended.
+fn main(rt: HostRuntime) {
+    let mut pair = [0; PAIR];
+    for _ in 0..MOST_PAIRS {
+        if rt.stdin().read_exact(&mut pair).is_err() {
+            return;
+        }
+        let (x, y) = pair.split_at(PATTERN + 1);
+        respond(
+            &rt,
+            &Answers::at(value(&x[..PATTERN]), value(&y[..PATTERN])),
+        );
+    }
 }

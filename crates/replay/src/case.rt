@@ -1,13 +1,19 @@
 //! A case, as a line writes it: a tag of four bytes and then its fields, one space before each.
-ghost use Rattle.std.specs.Prelude.{◌≡◌, IfOk};
+ghost use Rattle.std.specs.Prelude.{◌≡◌};
 ghost use Rattle.replay.specs.Case.{first_bytes};
 
-use std::alloc::{AllocError, Global};
+use arrayvec::ArrayVec;
+
+/// A line longer than this many bytes counts as several.
+pub(crate) const LONGEST_LINE: usize = 1024;
+
+/// No field of a line has more bytes.
+pub(crate) const LONGEST_FIELD: usize = LONGEST_LINE / 2;
 
 /// A field's bytes, and the number that the first eight are, the highest first.
 #[derive(Drop)]
 pub(crate) struct Field {
-    pub(crate) bytes: Vec<u8>,
+    pub(crate) bytes: ArrayVec<u8, LONGEST_FIELD>,
     pub(crate) word: u64,
 }
 
@@ -45,28 +51,34 @@ fn byte_of_digits(digits: &[u8]) -> u8 {
 
 impl Field {
     /// A byte below `0` is passed over, as the `-` that stands for no byte and the newline. An odd last digit is a byte for the number alone.
-    fn parse(alloc: Global, text: &[u8]) -> Result<Field, AllocError> {
-        let digits: Vec<u8> = text.iter().filter_map(|c| digit(*c)).collect(alloc)?;
-        let mut bytes: Vec<u8> = digits.chunks(2).map(byte_of_digits).collect(alloc)?;
+    fn parse(text: &[u8]) -> Field {
+        let mut digits = ArrayVec::<u8, LONGEST_LINE>::new();
+        for digit in text.iter().filter_map(|byte| digit(*byte)) {
+            let _ = digits.try_push(digit);
+        }
+        let mut bytes = ArrayVec::new();
+        for pair in digits.chunks(2) {
+            let _ = bytes.try_push(byte_of_digits(pair));
+        }
         let word = u64::from_be_bytes(leading(&bytes));
         bytes.truncate(digits.len() / 2);
-        Ok(Field { bytes, word })
+        Field { bytes, word }
     }
 }
 
 impl Case {
     /// A tag that is too short ends in zero bytes; a field that is missing is empty.
-    pub(crate) fn parse(alloc: Global, line: &[u8]) -> Result<Case, AllocError>
-        ensures { IfOk result (λ case. case.tag ≡ first_bytes 4 line.now) }
+    pub(crate) fn parse(line: &[u8]) -> Case
+        ensures { result.tag ≡ first_bytes 4 line.now }
     {
         let mut fields = line.split(|byte| *byte == b' ').skip(1);
-        let mut field = || Field::parse(alloc, fields.next().unwrap_or(&[]));
-        Ok(Case {
+        let mut field = || Field::parse(fields.next().unwrap_or(&[]));
+        Case {
             tag: leading(line),
-            first: field()?,
-            second: field()?,
-            third: field()?,
-            fourth: field()?,
-        })
+            first: field(),
+            second: field(),
+            third: field(),
+            fourth: field(),
+        }
     }
 }
