@@ -16,11 +16,11 @@ use Rattle.zone_records.specs.Slice.{as_records}
 use Rattle.zone_records.proofs.Slices.{records-length}
 
 module _ (bytes : List ℕ) (zone : List ZoneRecord) (holds : records bytes ≡ as_records zone) where
-  -- r is what `zone::lookup` ensures of the bytes, and s what `lookup` ensures of the slice
+  -- r is what `ZoneList::lookup` of zone ensures of the bytes, and s what `lookup` ensures of the slice
   pub same-lookup : (t r s : ℤ) → r ≡ offset_at (records bytes) t → s ≡ offset_at (as_records zone) t → s ≡ r
   same-lookup t r s of-bytes of-slice = of-slice ∙ ap (λ (list : List Record). offset_at list t) (sym holds) ∙ sym of-bytes
 
-  -- r is what `zone::accept` ensures of bytes that are whole records, and s what `accept` ensures of the slice
+  -- r is what `ZoneList::accept` of zone answers, whether there is a list, of bytes that are whole records, and s what `accept` ensures of the slice
   pub same-accept : length bytes ≡ 12 * length zone → (r s : Bool) → r ≡ accepts bytes → s ≡ is_zone_list (as_records zone) → s ≡ r
   unfolding accepts
   same-accept whole r s of-bytes of-slice =

@@ -1,25 +1,27 @@
 -- A slice of records read as the zone list's: what is read of the one is what the definitions say of the other. And what the library's calls
 -- answer of a slice, in the definitions' words: whether it keeps the rule, and which record decides. Assumes nothing.
 use mathlib.Core.Path.{◌≡◌, sym, ap, subst, ◌∙◌}
-use mathlib.Core.Bool.{Bool, true, false}
-use mathlib.Core.List.{List, [], ◌∷◌}
+use mathlib.Core.Bool.{Bool, true, false, true≢false}
+use mathlib.Core.List.{List}
 use Prim.Native.Nat.{ℕ, zero, suc, ◌+◌, ◌-◌, ◌<◌, ◌≤◌}
+use native.Mathlib.Numerals.{add-one}
 use native.Mathlib.Omega.{arith}
-use lib.Dec.{T, leb}
+use lib.Dec.{leb}
 use lib.IntN.{ℤ, pos, nat_abs}
 use lib.ListN.{length, get_or, length-map, get_or-map}
-use lib.Signed.{le_z, lt_z, ◌≤ℤ◌, ◌<ℤ◌}
-use mir.Facts.{and_yes, yes_and, leb_yes, yes_leb}
-use Rattle.std.specs.List.{list_all, AllAdjacentBelow, IsAllAdjacentAnswer}
+use lib.Signed.{le_z, lt_z, ◌<ℤ◌, lt_z_yes}
+use mir.Facts.{T_not, and_yes, yes_and, leb_yes, yes_leb}
+use Rattle.std.specs.List.{AllAdjacentBelow, IsAllAdjacentAnswer}
 use Rattle.std.specs.List.Sorted.{IsPartitionedBy, IsPartitionPoint}
 use Rattle.integers.proofs.Int.{ints}
-use Rattle.integers.proofs.Machine.{true-T, lt-true, lt-false}
+use Rattle.integers.proofs.Machine.{true-T, false-T}
 use Rattle.zone.specs.Zone.{Record, second_of, offset_of, IsDeciding, IsZoneList, is_zone_list, offset_at}
 use Rattle.zone.proofs.Offset.{offset-decided}
 use Rattle.zone.proofs.Searched.{partitioned as rising_partitioned, deciding_before}
 use Rattle.zone.proofs.Rule.{is_true, is_false, rising-adjacent, is_zone_list-sound, is_zone_list-complete}
 use Rattle.zone_records.specs.declared.ZoneRecord.{ZoneRecord}
 use Rattle.zone_records.specs.Slice.{as_record, as_records}
+use Rattle.zone_records.specs.Inner.{follows}
 
 -- what stands past a slice's end; nothing asks for it
 abbrev pub none : ZoneRecord
@@ -38,32 +40,31 @@ offset-is list i = ap (λ (r : Record). r.offset) (get_or-map as_record list i n
 abbrev pub bounded : ZoneRecord → Bool
 bounded z = leb (nat_abs z.offset) 86399
 
-abbrev pub before : ZoneRecord → ZoneRecord → Bool
-before y z = lt_z y.second z.second
+-- what follows another is within the bounds and after it, and the other way round
+follows-both : (y z : ZoneRecord) → true ≡ follows y z → (nat_abs z.offset ≤ 86399) × (y.second <ℤ z.second)
+follows-both y z e = let both = and_yes (bounded z) (lt_z y.second z.second) (true-T _ (sym e)) in (leb_yes both.0, lt_z_yes both.1)
 
-all-bounded : (list : List ZoneRecord) → T (list_all bounded list) → (i : ℕ) → i < length list → nat_abs (get_or list i none).offset ≤ 86399
-all-bounded [] h i l = absurd (let no : ⊥ = omega (arith, l) in no)
-all-bounded (z ∷ zs) h zero l = leb_yes (and_yes (bounded z) (list_all bounded zs) h).0
-all-bounded (z ∷ zs) h (suc i) l = all-bounded zs (and_yes (bounded z) (list_all bounded zs) h).1 i (omega arith)
-
-bounded-all : (list : List ZoneRecord) → ((i : ℕ) → i < length list → nat_abs (get_or list i none).offset ≤ 86399) → T (list_all bounded list)
-bounded-all [] h = tt
-bounded-all (z ∷ zs) h = yes_and (bounded z) (list_all bounded zs) (yes_leb (h 0 (omega arith))) (bounded-all zs (λ i l. h (suc i) (omega arith)))
+follows-from : (y z : ZoneRecord) → nat_abs z.offset ≤ 86399 → y.second <ℤ z.second → true ≡ follows y z
+follows-from y z b up = sym (is_true _ (yes_and (bounded z) (lt_z y.second z.second) (yes_leb b) up.lt))
 
 module _ (list : List ZoneRecord) where
   -- what keeps the rule
-  is-list : 1 ≤ length list → length list ≤ 1024 → list_all bounded list ≡ true → AllAdjacentBelow (λ y z. true ≡ before y z) list (length list) → true ≡ is_zone_list (as_records list)
-  is-list some few in-bounds up =
+  is-list : 1 ≤ length list → length list ≤ 1024 → bounded (get_or list 0 none) ≡ true → AllAdjacentBelow (λ y z. true ≡ follows y z) list (length list) → true ≡ is_zone_list (as_records list)
+  is-list some few first up =
       sym (is_true _ (is_zone_list-complete (as_records list)
       (record {
         some = omega (arith, some, records-length list);
         few = omega (arith, few, records-length list);
         rising = λ i j a b. rising-adjacent (second_of (as_records list)) (length list) next i j a (omega (arith, b, records-length list));
-        bounded = λ i l. subst (λ (z : ℤ). nat_abs z ≤ 86399) (sym (offset-is list i)) (all-bounded list (true-T _ in-bounds) i (omega (arith, l, records-length list)));
+        bounded = λ i l. subst (λ (z : ℤ). nat_abs z ≤ 86399) (sym (offset-is list i)) (within i (omega (arith, l, records-length list)));
       })))
     where
       next : (k : ℕ) → k + 1 < length list → second_of (as_records list) k <ℤ second_of (as_records list) (k + 1)
-      next k l = let above : (get_or list k none).second <ℤ (get_or list (k + 1) none).second = lt-true (sym (up k none l)) in omega (ints, above, second_is list k, second_is list (k + 1))
+      next k l = let above = (follows-both (get_or list k none) (get_or list (k + 1) none) (up k none l)).1 in omega (ints, above, second_is list k, second_is list (k + 1))
+
+      within : (i : ℕ) → i < length list → nat_abs (get_or list i none).offset ≤ 86399
+      within zero l = leb_yes (true-T _ first)
+      within (suc k) l = subst (λ (i : ℕ). nat_abs (get_or list i none).offset ≤ 86399) (add-one k) (follows-both (get_or list k none) (get_or list (k + 1) none) (up k none (omega (arith, l)))).0
 
   -- and what breaks it
   no-list : (IsZoneList (as_records list) → ⊥) → false ≡ is_zone_list (as_records list)
@@ -72,17 +73,18 @@ module _ (list : List ZoneRecord) where
   pub other_size : (1 ≤ length list → length list ≤ 1024 → ⊥) → false ≡ is_zone_list (as_records list)
   other_size wrong = no-list (λ r. wrong (omega (arith, r.some, records-length list)) (omega (arith, r.few, records-length list)))
 
-  pub out_of_bounds : list_all bounded list ≡ false → false ≡ is_zone_list (as_records list)
-  out_of_bounds e =
-      no-list (λ r. let all = bounded-all list (λ i l. subst (λ (z : ℤ). nat_abs z ≤ 86399) (offset-is list i) (r.bounded i (omega (arith, l, records-length list)))) in
-      subst (λ (b : Bool). T b) e all)
+  kept-bound : IsZoneList (as_records list) → (i : ℕ) → i < length list → nat_abs (get_or list i none).offset ≤ 86399
+  kept-bound r i l = subst (λ (z : ℤ). nat_abs z ≤ 86399) (offset-is list i) (r.bounded i (omega (arith, l, records-length list)))
 
-  pub judged : 1 ≤ length list → length list ≤ 1024 → list_all bounded list ≡ true → (b : Bool) → IsAllAdjacentAnswer (λ y z b. b ≡ before y z) list b → b ≡ is_zone_list (as_records list)
-  judged some few in-bounds true up = is-list some few in-bounds up
-  judged some few in-bounds false (k, l, down) =
+  pub out_of_bounds : 1 ≤ length list → bounded (get_or list 0 none) ≡ false → false ≡ is_zone_list (as_records list)
+  out_of_bounds some e = no-list (λ r. T_not (bounded (get_or list 0 none)) (yes_leb (kept-bound r 0 (omega (arith, some)))) (false-T (bounded (get_or list 0 none)) e))
+
+  pub judged : 1 ≤ length list → length list ≤ 1024 → bounded (get_or list 0 none) ≡ true → (b : Bool) → IsAllAdjacentAnswer (λ y z b. b ≡ follows y z) list b → b ≡ is_zone_list (as_records list)
+  judged some few first true up = is-list some few first up
+  judged some few first false (k, l, down) =
       no-list (λ r. let above = r.rising k (k + 1) (omega arith) (omega (arith, l, records-length list)) in
-      let below : (get_or list (k + 1) none).second ≤ℤ (get_or list k none).second = lt-false (sym (down none)) in
-      let no : ⊥ = omega (ints, above, below, second_is list k, second_is list (k + 1)) in no)
+      let up : (get_or list k none).second <ℤ (get_or list (k + 1) none).second = omega (ints, above, second_is list k, second_is list (k + 1)) in
+      true≢false (follows-from (get_or list k none) (get_or list (k + 1) none) (kept-bound r (k + 1) l) up ∙ sym (down none)))
 
 -- ---- the lookup: zone's laws of the library's search, of records
 module _ (list : List ZoneRecord) (rule : IsZoneList (as_records list)) (t : ℤ) where

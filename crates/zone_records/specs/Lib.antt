@@ -1,2 +1,3 @@
 pub mod Slice
 pub mod Encoded
+pub mod Inner

@@ -3,10 +3,10 @@
 #![tactic(auto)]
 
 ghost use Rattle.std.specs.Prelude.{◌≡◌, leb, nat_abs};
-ghost use Rattle.std.specs.List.{list_all, IsAllAdjacentAnswer};
-ghost use Rattle.std.specs.Int.Signed.{lt_z};
+ghost use Rattle.std.specs.List.{IsAllAdjacentAnswer};
 ghost use Rattle.zone.specs.Zone.{IsZoneList, is_zone_list, offset_at};
 ghost use Rattle.zone_records.specs.Slice.{as_records};
+ghost use Rattle.zone_records.specs.Inner.{follows};
 
 use zone::{LARGEST_OFFSET, MOST_RECORDS};
 
@@ -20,21 +20,23 @@ pub struct ZoneRecord {
 pub fn accept(zone: &[ZoneRecord]) -> bool
     ensures { result ≡ is_zone_list (as_records zone.now) }
 {
-    (1..=MOST_RECORDS).contains(&zone.len()) && are_bounded(zone) && are_rising(zone)
+    (1..=MOST_RECORDS).contains(&zone.len()) && is_bounded(zone[0].offset) && all_follow(zone)
 }
 
-// Whether each offset is less than a day, forwards or back.
-fn are_bounded(zone: &[ZoneRecord]) -> bool
-    ensures { result ≡ list_all (λ z. leb (nat_abs z.offset) 86399) zone.now }
+// Less than a day, forwards or back.
+fn is_bounded(offset: i32) -> bool
+    ensures { result ≡ leb (nat_abs offset) 86399 }
 {
-    zone.iter().all(|record| (-LARGEST_OFFSET..=LARGEST_OFFSET).contains(&record.offset))
+    (-LARGEST_OFFSET..=LARGEST_OFFSET).contains(&offset)
 }
 
-// Whether each second is before the next.
-fn are_rising(zone: &[ZoneRecord]) -> bool
-    ensures { IsAllAdjacentAnswer (λ y z b. b ≡ lt_z y.second z.second) zone.now result }
+// Whether each record but the first is within the bounds and after the one before it: in one pass, so that a fault is met as early as it stands.
+fn all_follow(zone: &[ZoneRecord]) -> bool
+    ensures { IsAllAdjacentAnswer (λ y z b. b ≡ follows y z) zone.now result }
 {
-    zone.is_sorted_by(|before, after| before.second < after.second)
+    zone.is_sorted_by(|before, after| {
+        (-LARGEST_OFFSET..=LARGEST_OFFSET).contains(&after.offset) && before.second < after.second
+    })
 }
 
 // The offset that a slice of records gives at a second: of the last record not after it, or of the first.
