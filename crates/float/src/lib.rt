@@ -299,32 +299,38 @@ pub fn exact_i64(x: f64) -> i64
     (x + 0.0) as i64
 }
 
-// Rust's `x as i64`: toward zero, to the nearer end of the range where x is beyond it, and 0 for a NaN.
+// Rust's `x as i64`: toward zero, to the nearer end of the range where x is beyond it, and 0 for a NaN. A whole number to 2^53 takes one cast.
 pub fn as_i64(x: f64) -> i64
     ensures { result ≡ to_signed 63 x }
 {
+    if is_whole_within(x, EXACT_LIMIT) {
+        return exact_i64(x);
+    }
     std::num::saturating_f64_to_i64(x)
 }
 
 // Rust's `x as i32`.
+#[tactic(auto, using(crate::proofs::Narrow::i32_clamped))]
 pub fn as_i32(x: f64) -> i32
     ensures { result ≡ to_signed 31 x }
 {
-    std::num::saturating_f64_to_i32(x)
+    as_i64(x).clamp(i64::from(i32::MIN), i64::from(i32::MAX)) as i32
 }
 
 // Rust's `x as u16`.
+#[tactic(auto, using(crate::proofs::Narrow::u16_clamped))]
 pub fn as_u16(x: f64) -> u16
     ensures { result ≡ to_unsigned 16 x }
 {
-    std::num::saturating_f64_to_u16(x)
+    as_i64(x).clamp(0, i64::from(u16::MAX)) as u16
 }
 
 // Rust's `x as u8`.
+#[tactic(auto, using(crate::proofs::Narrow::u8_clamped))]
 pub fn as_u8(x: f64) -> u8
     ensures { result ≡ to_unsigned 8 x }
 {
-    std::num::saturating_f64_to_u8(x)
+    as_i64(x).clamp(0, i64::from(u8::MAX)) as u8
 }
 
 // ECMA-262, ToIntegerOrInfinity of a number: NaN and -0.5 give +0.0, an infinity is itself, and any other is cut toward zero.
