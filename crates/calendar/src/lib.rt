@@ -3,14 +3,14 @@
 // of the range and its local shifts year, day of the year, weekday and clock are counted in integers; all else goes by those operations.
 #![tactic(auto)]
 
-ghost use Rattle.std.specs.Prelude.{◌≡◌, ◌<◌, ◌≤◌, cond, pos, nat_abs, ◌+ℤ◌, IfSome};
+ghost use Rattle.std.specs.Prelude.{◌≡◌, ◌&&◌, ◌<◌, ◌≤◌, leb, cond, pos, nat_abs, ◌+ℤ◌, is_some, IfSome};
 ghost use Rattle.std.specs.Float.{binary64};
 ghost use Rattle.std.specs.Float.Ieee.{sub, div, lt, of_int, to_unsigned, to_signed};
 ghost use Rattle.std.specs.Int.Signed.{lt_z};
 ghost use Rattle.ecma262.specs.Date.{day_from_year, leap_of, days_before, month_of, make_day};
-ghost use Rattle.float.specs.Rounding.{floor_f, rem_euclid_f};
+ghost use Rattle.float.specs.Rounding.{floor_f, rem_euclid_f, is_whole_within};
 ghost use Rattle.float.specs.Whole.{trunc_z, WholeWithin};
-ghost use Rattle.calendar.specs.Calendar.{year_counted, day_f, time_within_day_f, days_in_year_f, day_from_year_f, time_from_year_f, year_estimate_f, year_from_time_f, day_within_year_f, in_leap_year_f, leap_f, day_within_f, month_from_time_f, date_from_time_f, week_day_f, hour_from_time_f, min_from_time_f, sec_from_time_f, ms_from_time_f};
+ghost use Rattle.calendar.specs.Calendar.{num, year_counted, day_f, time_within_day_f, days_in_year_f, day_from_year_f, time_from_year_f, year_estimate_f, year_from_time_f, day_within_year_f, in_leap_year_f, leap_f, day_within_f, month_from_time_f, date_from_time_f, week_day_f, hour_from_time_f, min_from_time_f, sec_from_time_f, ms_from_time_f};
 
 // HoursPerDay, MinutesPerHour, SecondsPerMinute
 const HOURS_PER_DAY: f64 = 24.0;
@@ -102,7 +102,8 @@ pub fn day_number(year: i64, month: u32, date: i64) -> i64
 
 // A whole time of the range, or of its local shifts, 86,399 s either way: counted.
 fn shown_count(t: f64) -> Option<u64>
-    ensures { IfSome result (λ n. WholeWithin 8_640_000_086_399_000 t × (pos n ≡ trunc_z t +ℤ MS_BEFORE_1970)) }
+    ensures decided { is_some result ≡ is_whole_within (num 8_640_000_086_399_000) t }
+    ensures count { IfSome result (λ n. WholeWithin 8_640_000_086_399_000 t × (pos n ≡ trunc_z t +ℤ MS_BEFORE_1970)) }
 {
     if float::is_whole_within(t, 8_640_000_086_399_000.0) {
         return Some(counted(float::exact_i64(t)));
@@ -112,7 +113,8 @@ fn shown_count(t: f64) -> Option<u64>
 
 // A year of which TimeFromYear is exact in f64, as it is of the year of each such time: counted.
 fn near_year(year: i32) -> Option<CountedYear>
-    ensures { IfSome result (λ z. (nat_abs year ≤ 280_001) × (year_counted z.count ≡ year)) }
+    ensures decided { is_some result ≡ leb (nat_abs year) 280_001 }
+    ensures count { IfSome result (λ z. (nat_abs year ≤ 280_001) × (year_counted z.count ≡ year)) }
 {
     (year.unsigned_abs() <= 280_001).then(|| CountedYear::of(i64::from(year)))
 }
@@ -120,6 +122,7 @@ fn near_year(year: i32) -> Option<CountedYear>
 // Day(t) - DayFromYear(year), of such a time and such a year: what it is in f64. It is negative where the year starts after t, since
 // TimeFromYear(year) is a whole number of days.
 fn days_into(year: i32, t: f64) -> Option<i64>
+    ensures decided { is_some result ≡ (is_whole_within (num 8_640_000_086_399_000) t && leb (nat_abs year) 280_001) }
     ensures exact { IfSome result (λ d. d ≡ to_signed 63 (sub binary64 (day_f t) (day_from_year_f (of_int binary64 year)))) }
     ensures negative { IfSome result (λ d. lt_z d (pos 0) ≡ lt t (time_from_year_f (of_int binary64 year))) }
 {

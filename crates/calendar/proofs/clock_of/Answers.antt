@@ -8,8 +8,8 @@ use Rattle.calendar.proofs.clock_of.Goals as goal
 pub returns-in-Some : goal.returns-in-Some
 returns-in-Some c =
     let n = c.in-Some.n in
-    let w = c.in-Some.ensures.0 in
-    let e = c.in-Some.ensures.1 in
+    let w = c.in-Some.ensures.count.0 in
+    let e = c.in-Some.ensures.count.1 in
     (hour-quick w n e, min-quick w n e, sec-quick w n e, ms-quick w n e)
 
 pub returns : goal.returns

@@ -23,17 +23,17 @@ module _ (c : After-first_day) where
 
   -- ---- a shown time and a near year
   shown : WholeWithin 8_640_000_086_399_000 c.args.t
-  shown = c.in_ok-n.ensures.0
+  shown = c.in_ok-n.ensures.count.0
 
   number : year_counted c.in_ok-counted.counted.count ≡ c.args.year
-  number = c.in_ok-counted.ensures.1 ∙ kept c.ranges.year
+  number = c.in_ok-counted.ensures.count.1 ∙ kept c.ranges.year
 
   near : nat_abs c.args.year ≤ 280_001
-  near = subst (λ (y : ℤ). nat_abs y ≤ 280_001) (kept c.ranges.year) c.in_ok-counted.ensures.0
+  near = subst (λ (y : ℤ). nat_abs y ≤ 280_001) (kept c.ranges.year) c.in_ok-counted.ensures.count.0
 
   -- ---- the difference, as the machine takes it
   day : pos (n / 86_400_000) -ℤ pos 439_010_162 ≡ day_of_time (trunc_z c.args.t)
-  day = day-counted (trunc_z c.args.t) n c.in_ok-n.ensures.1
+  day = day-counted (trunc_z c.args.t) n c.in_ok-n.ensures.count.1
 
   first : c.first_day.result ≡ day_from_year c.args.year
   first = c.first_day.ensures ∙ ap day_from_year number

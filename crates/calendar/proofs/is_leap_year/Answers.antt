@@ -10,5 +10,5 @@ use Rattle.calendar.proofs.is_leap_year.Goals as goal
 
 pub returns-in-Some : goal.returns-in-Some
 returns-in-Some c =
-    let near : nat_abs c.args.year ≤ 280_001 = subst (λ (y : ℤ). nat_abs y ≤ 280_001) (kept c.ranges.year) c.in-Some.ensures.0 in
-    c.is_leap.ensures ∙ ap leap_of (c.in-Some.ensures.1 ∙ kept c.ranges.year) ∙ sym (leap-whole c.args.year (omega (arith, near)))
+    let near : nat_abs c.args.year ≤ 280_001 = subst (λ (y : ℤ). nat_abs y ≤ 280_001) (kept c.ranges.year) c.in-Some.ensures.count.0 in
+    c.is_leap.ensures ∙ ap leap_of (c.in-Some.ensures.count.1 ∙ kept c.ranges.year) ∙ sym (leap-whole c.args.year (omega (arith, near)))

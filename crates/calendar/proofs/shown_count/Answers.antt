@@ -26,6 +26,15 @@ exact_i64-requires c = let w = shown c in record { whole = w.whole; size = omega
 pub counted-requires : goal.counted-requires
 counted-requires c = omega (arith, ap nat_abs (exact c), (shown c.before).size)
 
-pub returns-then-is_whole_within : goal.returns-then-is_whole_within
-returns-then-is_whole_within c =
+-- ---- whether there is a count
+pub returns-then-is_whole_within-clause-decided : goal.returns-then-is_whole_within-clause-decided
+unfolding of_bits of_int
+returns-then-is_whole_within-clause-decided c = sym (sym c.is_whole_within.ensures ∙ c.if-is_whole_within.true)
+
+pub returns-clause-decided : goal.returns-clause-decided
+unfolding of_bits of_int
+returns-clause-decided c = sym (sym c.is_whole_within.ensures ∙ c.if-is_whole_within.false)
+
+pub returns-then-is_whole_within-clause-count : goal.returns-then-is_whole_within-clause-count
+returns-then-is_whole_within-clause-count c =
     (shown c.before.before, c.counted.ensures ∙ ap (λ (z : ℤ). z +ℤ pos 37930477996800000) (exact c.before))

@@ -7,7 +7,7 @@ use Rattle.calendar.proofs.Quick.{week-day-quick}
 use Rattle.calendar.proofs.week_day.Goals as goal
 
 pub returns-in-Some : goal.returns-in-Some
-returns-in-Some c = let e = c.in-Some.ensures in week-day-quick e.0 c.in-Some.n e.1
+returns-in-Some c = let e = c.in-Some.ensures.count in week-day-quick e.0 c.in-Some.n e.1
 
 pub returns : goal.returns
 unfolding week_day_f of_bits of_int
