@@ -1,11 +1,12 @@
 -- A number's last n digits, written from the last place to the first. Assumes nothing.
 use mathlib.Core.Path.{◌≡◌, sym, ap, ◌∙◌}
 use mathlib.Core.List.{List, ◌∷◌}
-use Prim.Native.Nat.{ℕ, suc, ◌+◌, ◌-◌, ◌/◌, ◌%◌, ◌^◌, ◌≤◌, ◌<◌}
+use Prim.Native.Nat.{ℕ, zero, suc, ◌+◌, ◌-◌, ◌*◌, ◌/◌, ◌%◌, ◌^◌, ◌≤◌, ◌<◌}
 use native.Mathlib.Nat.{pow-suc, div-one, div-div-eq-div-mul}
 use native.Mathlib.Omega.{arith}
 use lib.ListN.{length, drop, set, replicate, length-replicate, length-set}
 use lib.Seq.{drop-length}
+use Rattle.std.proofs.Math.Nat.{div-lt_iff_lt-mul}
 use Rattle.std.proofs.lemmas.List.{drop-set}
 use Rattle.ecma262.specs.Digits.{digit, digits}
 use Rattle.ecma262.proofs.Digits.{digits_mod, digits-join}
@@ -43,6 +44,21 @@ next_place n t i rest d bytes is some within p =
       rest-is = rw (places, pow-suc, p.rest-is) (div-div-eq-div-mul t (10 ^ (n - i)) 10);
       written = drop-set bytes (i - 1) d h ∙ rw (is, j, p.written, places, p.rest-is) (first (n - i) t);
     }
+
+pow-positive : (k : ℕ) → 0 < 10 ^ k
+pow-positive zero = omega arith
+pow-positive (suc k) = let more = pow-positive k in rw (pow-suc 10 k) (omega (arith, more))
+
+-- of a number of n digits, what is left before the last n - 1 is a digit
+leading : (k t : ℕ) → t < 10 ^ suc k → t / 10 ^ k < 10
+leading k t h = let few : t < 10 ^ k * 10 = rw (← pow-suc) h in (div-lt_iff_lt-mul (pow-positive k)).1 (omega (arith, few))
+
+pub highest : (n t rest : ℕ) (bytes : List ℕ) → 1 ≤ n → t < 10 ^ n → FromPlace n t 1 rest bytes → rest % 10 ≡ rest
+highest zero t rest bytes some few p = absurd (let none : ⊥ = omega arith in none)
+highest (suc k) t rest bytes some few p =
+    let e : suc k - 1 ≡ k = omega arith in
+    let small : rest < 10 = rw (p.rest-is, e) (leading k t few) in
+    omega (arith, small)
 
 pub all_places : (n t i rest : ℕ) (bytes : List ℕ) → i ≤ 0 → FromPlace n t i rest bytes → bytes ≡ digits n t
 all_places n t i rest bytes none p =

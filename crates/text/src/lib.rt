@@ -15,13 +15,15 @@ use output::last_digits;
 
 // ---- digits
 
+#[inline(always)]
 fn pad<const N: usize>(t: u32, output: &mut Output)
-    requires { HasRoom output.old N }
+    requires { (t < 10 ^ N) × HasRoom output.old N }
     ensures { Appended output.old (digits N t) N output.new }
 {
     output.put_all(&last_digits::<N>(t));
 }
 
+#[inline(always)]
 pub fn pad_two(t: u8, output: &mut Output)
     requires { (t < 100) × HasRoom output.old 2 }
     ensures { Appended output.old (digits 2 t) 2 output.new }
@@ -29,6 +31,7 @@ pub fn pad_two(t: u8, output: &mut Output)
     pad::<2>(u32::from(t), output);
 }
 
+#[inline(always)]
 pub fn pad_three(t: u16, output: &mut Output)
     requires { (t < 1000) × HasRoom output.old 3 }
     ensures { Appended output.old (digits 3 t) 3 output.new }
@@ -36,6 +39,7 @@ pub fn pad_three(t: u16, output: &mut Output)
     pad::<3>(u32::from(t), output);
 }
 
+#[inline(always)]
 pub fn pad_four(t: u32, output: &mut Output)
     requires { (t < 10000) × HasRoom output.old 4 }
     ensures { Appended output.old (digits 4 t) 4 output.new }
@@ -43,6 +47,7 @@ pub fn pad_four(t: u32, output: &mut Output)
     pad::<4>(t, output);
 }
 
+#[inline(always)]
 pub fn pad_five(t: u32, output: &mut Output)
     requires { (t < 100000) × HasRoom output.old 5 }
     ensures { Appended output.old (digits 5 t) 5 output.new }
@@ -50,6 +55,7 @@ pub fn pad_five(t: u32, output: &mut Output)
     pad::<5>(t, output);
 }
 
+#[inline(always)]
 pub fn pad_six(t: u32, output: &mut Output)
     requires { (t < 1000000) × HasRoom output.old 6 }
     ensures { Appended output.old (digits 6 t) 6 output.new }
@@ -84,6 +90,7 @@ pub fn month_name(month: u8) -> [u8; 3]
     MONTH_NAMES[usize::from(month)]
 }
 
+#[inline(always)]
 pub fn put_name(name: [u8; 3], output: &mut Output)
     requires { HasRoom output.old 3 }
     ensures { Appended output.old name 3 output.new }
@@ -92,6 +99,7 @@ pub fn put_name(name: [u8; 3], output: &mut Output)
 }
 
 // A separator and two digits.
+#[inline(always)]
 fn put_two(separator: u8, t: u8, output: &mut Output)
     requires { (t < 100) × HasRoom output.old 3 }
     ensures { Appended output.old (separator ∷ digits 2 t) 3 output.new }
@@ -101,6 +109,7 @@ fn put_two(separator: u8, t: u8, output: &mut Output)
 }
 
 // `HH:mm:ss`.
+#[inline(always)]
 fn put_clock(f: DateFields, output: &mut Output)
     requires { HasRoom output.old 8 }
     ensures { Appended output.old (clock_of (whole_of f)) 8 output.new }
@@ -120,6 +129,7 @@ fn iso_year_length(year: i32) -> usize
 }
 
 // Four digits, or a sign and six.
+#[inline(always)]
 fn put_iso_year(year: i32, output: &mut Output)
     requires { (nat_abs year ≤ 999999) × HasRoom output.old 7 }
     ensures { Appended output.old (iso_year year) (length (iso_year year)) output.new }
@@ -141,6 +151,7 @@ fn put_iso_year(year: i32, output: &mut Output)
 // ---- the ISO text
 
 // `-MM-DD`, the month from 01.
+#[inline(always)]
 fn put_iso_date(f: DateFields, output: &mut Output)
     requires { HasRoom output.old 6 }
     ensures { Appended output.old (iso_date (whole_of f)) 6 output.new }
@@ -150,6 +161,7 @@ fn put_iso_date(f: DateFields, output: &mut Output)
 }
 
 // `THH:mm:ss.sssZ`.
+#[inline(always)]
 fn put_iso_time(f: DateFields, output: &mut Output)
     requires { HasRoom output.old 14 }
     ensures { Appended output.old (iso_time (whole_of f)) 14 output.new }
@@ -190,6 +202,7 @@ fn padded_length(y: u32) -> usize
 }
 
 // At least four digits.
+#[inline(always)]
 fn put_padded_year(y: u32, output: &mut Output)
     requires { (y < 1000000) × HasRoom output.old 6 }
     ensures { Appended output.old (padded_year y) (length (padded_year y)) output.new }
@@ -209,6 +222,7 @@ fn signed_length(year: i32) -> usize
 }
 
 // `-` before a negative year, nothing before another.
+#[inline(always)]
 fn put_year_sign(year: i32, output: &mut Output)
     requires { HasRoom output.old 1 }
     ensures { Appended output.old (year_sign year) (length (year_sign year)) output.new }
@@ -218,6 +232,7 @@ fn put_year_sign(year: i32, output: &mut Output)
     }
 }
 
+#[inline(always)]
 fn put_signed_year(year: i32, output: &mut Output)
     requires { (nat_abs year ≤ 999999) × HasRoom output.old 7 }
     ensures { Appended output.old (signed_year year) (length (signed_year year)) output.new }
@@ -229,6 +244,7 @@ fn put_signed_year(year: i32, output: &mut Output)
 // ---- DateString, TimeString, TimeZoneString
 
 // `HH:mm:ss GMT`.
+#[inline(always)]
 pub fn time_string(f: DateFields, output: &mut Output)
     requires { HasRoom output.old 12 }
     ensures { Appended output.old (time_string_of (whole_of f)) 12 output.new }
@@ -245,6 +261,7 @@ fn offset_sign(offset: i32) -> u8
 }
 
 // The suffix, from an offset in seconds. Its seconds are cut off.
+#[inline(always)]
 pub fn time_zone_string(offset: i32, output: &mut Output)
     requires { (nat_abs offset ≤ 86399) × HasRoom output.old 5 }
     ensures { Appended output.old (time_zone_string offset) 5 output.new }
@@ -258,6 +275,7 @@ pub fn time_zone_string(offset: i32, output: &mut Output)
 // ---- the UTC and the local text
 
 // `Www, DD Mmm `.
+#[inline(always)]
 fn put_utc_head(f: DateFields, output: &mut Output)
     requires { HasRoom output.old 12 }
     ensures { Appended output.old (utc_head f.weekday (whole_of f)) 12 output.new }
@@ -271,6 +289,7 @@ fn put_utc_head(f: DateFields, output: &mut Output)
 }
 
 // `Www Mmm DD `.
+#[inline(always)]
 fn put_local_head(f: DateFields, output: &mut Output)
     requires { HasRoom output.old 11 }
     ensures { Appended output.old (local_head f.weekday (whole_of f)) 11 output.new }
@@ -283,6 +302,7 @@ fn put_local_head(f: DateFields, output: &mut Output)
 }
 
 // What both texts have behind their head: the year, a space and the time.
+#[inline(always)]
 fn put_year_and_time(f: DateFields, output: &mut Output)
     requires { HasRoom output.old (length (signed_year f.year) + 13) }
     ensures { Appended output.old (year_and_time (whole_of f)) (length (signed_year f.year) + 13) output.new }

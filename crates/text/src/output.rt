@@ -1,4 +1,4 @@
-ghost use Rattle.std.specs.Prelude.{◌≡◌, [], ◌∷◌, length};
+ghost use Rattle.std.specs.Prelude.{◌≡◌, ◌^◌, ◌<◌, [], ◌∷◌, length};
 ghost use Rattle.ecma262.specs.Digits.{digits};
 
 // A lent output, and the place in it where the next byte is put.
@@ -20,6 +20,7 @@ impl<'a> Output<'a> {
         Output { bytes, at: 0 }
     }
 
+    #[inline(always)]
     pub fn put(&mut self, b: u8)
         requires { HasRoom self.old 1 }
         ensures { Appended self.old (b ∷ []) 1 self.new }
@@ -28,6 +29,7 @@ impl<'a> Output<'a> {
         self.at += 1;
     }
 
+    #[inline(always)]
     pub fn put_all(&mut self, text: &[u8])
         requires { HasRoom self.old (length text.now) }
         ensures { Appended self.old text.now (length text.now) self.new }
@@ -38,15 +40,18 @@ impl<'a> Output<'a> {
     }
 }
 
-// The last N decimal digits, the highest first.
+// The last N decimal digits of a number that has no more, the highest first: it is what is left before the others, which no division has to show.
 #[tactic(auto, using(crate::proofs::Places::no_place, crate::proofs::Places::all_places))]
+#[inline(always)]
 pub(crate) fn last_digits<const N: usize>(t: u32) -> [u8; N]
+    requires { t < 10 ^ N }
     ensures { result ≡ digits N t }
 {
     let mut bytes = [b'0'; N];
     let mut rest = t;
     for i in (0..N).rev() {
-        bytes[i] = b'0' + (rest % 10) as u8;
+        let digit = if i == 0 { rest } else { rest % 10 };
+        bytes[i] = b'0' + digit as u8;
         rest /= 10;
     }
     bytes
