@@ -41,6 +41,11 @@ decimal-is e h = ap std_decimal e ∙ decimal-std _ h
 pub signed-is : {x z : ℤ} → SFits w64 x → x ≡ z → std_signed (to_z w64 (of_z w64 x)) ≡ signed_decimal z
 signed-is {x} f e = ap std_signed (kept f) ∙ signed-std x f.sfits ∙ ap signed_decimal e
 
+-- one of one digit
+pub one_digit : (n : ℕ) → n < 10 → decimal n ≡ digit n ∷ []
+unfolding decimal_within
+one_digit n h = rw (lt-ltb n 10 h)
+
 pub within : (k n : ℕ) → length (decimal_within k n) ≤ k
 unfolding decimal_within
 within zero n = omega arith

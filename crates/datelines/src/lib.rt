@@ -6,7 +6,7 @@ ghost use Rattle.std.specs.Prelude.{◌≡◌, ◌≤◌, length};
 ghost use Rattle.std.specs.Float.{binary64};
 ghost use Rattle.std.specs.Float.Ieee.{of_bits, to_signed};
 ghost use Rattle.text.specs.Inner.{HasRoom, Appended};
-ghost use Rattle.datelines.specs.Lines.{iso_of_bits, accepted_line, refused_line, newline, line_of, last_of, IsTimeBits, Appends};
+ghost use Rattle.datelines.specs.Lines.{decimal, iso_of_bits, accepted_line, refused_line, newline, line_of, last_of, IsTimeBits, Appends};
 
 mod open_line;
 
@@ -62,11 +62,23 @@ fn put_accepted(bits: u64, output: &mut Output)
     end_line(output);
 }
 
+// The number of a refusal, which mostly has one digit.
+fn put_refusal_number(number: u32, output: &mut Output)
+    requires { HasRoom output.old 10 }
+    ensures { Appends output.old (decimal number) output.new }
+{
+    if number < 10 {
+        output.put(b'0' + number as u8);
+    } else {
+        put_number(number, output);
+    }
+}
+
 fn put_refused(number: u32, output: &mut Output)
     requires { HasRoom output.old LONGEST_ANSWER }
     ensures { Appends output.old (refused_line number) output.new }
 {
-    put_number(number, output);
+    put_refusal_number(number, output);
     end_line(output);
 }
 
