@@ -79,7 +79,7 @@ fn put_refused(number: u32, output: &mut Output)
     ensures { Appends output.old (refused_line number) output.new }
 {
     put_refusal_number(number, output);
-    end_line(output);
+    output.put_all(b"\n");
 }
 
 // Writes the answer to a text.
